@@ -1,0 +1,52 @@
+-- `read_head`: the head and the payload that it announces fit, or they do not. Assumes nothing.
+use mathlib.Core.Path.{sym}
+use native.Mathlib.Omega.{arith}
+use Rattle.fields.proofs.Laws.{head-short, head-whole}
+use borrow.Author.Needs.{needs}
+use Rattle.fields.proofs.read_head.Statement.{statement}
+use Rattle.fields.proofs.read_head.Tie as tie
+
+returns : tie.Need-returns
+returns c = sym (head-short (c .before .before .args .s .now) (omega (arith, c .if1 .taken)))
+
+shared-slice-read-word : tie.Need-shared-slice-read-word
+shared-slice-read-word c = search needs
+
+shared-slice-read-word-2 : tie.Need-shared-slice-read-word-2
+shared-slice-read-word-2 c = search needs
+
+shared-slice-read-word-3 : tie.Need-shared-slice-read-word-3
+shared-slice-read-word-3 c = search needs
+
+shared-slice-read-word-4 : tie.Need-shared-slice-read-word-4
+shared-slice-read-word-4 c = search needs
+
+word-requires : tie.Need-word-requires
+word-requires c κs = search needs
+
+sub-if2 : tie.Need-sub-if2
+sub-if2 c = search needs
+
+returns-2 : tie.Need-returns-2
+returns-2 c = sym (head-short (c .before .before .before .before .before .before .before .before .args .s .now) (omega (arith, c .before .word .ensures, c .if2 .taken)))
+
+shared-slice-read-t12 : tie.Need-shared-slice-read-t12
+shared-slice-read-t12 c = search needs
+
+returns-3 : tie.Need-returns-3
+returns-3 c = rw (c .before .before .word .ensures) (sym (head-whole (c .before .before .before .before .before .before .before .before .before .args .s .now) (omega (arith, c .before .before .word .ensures, c .before .before .before .before .before .before .before .if1 .left, c .before .if2 .left))))
+
+pub read-head-spec : {M : Type 1} → statement M
+read-head-spec =
+    tie.close
+    (tie.spec
+    returns
+    shared-slice-read-word
+    shared-slice-read-word-2
+    shared-slice-read-word-3
+    shared-slice-read-word-4
+    word-requires
+    sub-if2
+    returns-2
+    shared-slice-read-t12
+    returns-3)

@@ -1,0 +1,253 @@
+// The fields of a story file: numbers, names, the heads of lists and records, and the kinds.
+ghost use mathlib.Core.Path.{_≡_};
+ghost use Rattle.fields.specs.Bytes.{le32, headOf, listOf, nameOf, flagOf, headSpan, testSpan};
+ghost use Rattle.fields.specs.Kinds.{exprKind, condKind, nodeKind, kindOf, roleNumber, tagOf};
+
+// Why a file cannot be read: refusals 1 to 6.
+pub enum Refusal {
+    Length,
+    Mark,
+    Starts,
+    Short,
+    Unknown,
+    Deep,
+}
+
+// The name at the front of some bytes: its length, with the place after it one byte more; or the refusal.
+pub enum NameRead {
+    Bytes(usize),
+    Refused(Refusal),
+}
+
+// The flag at the front of some bytes: 0 is off, 1 is on; or the refusal.
+pub enum FlagRead {
+    Off,
+    On,
+    Refused(Refusal),
+}
+
+// A list's length, or too few bytes for it.
+pub enum Span {
+    Bytes(usize),
+    Cut,
+}
+
+// A record's kind and its payload's length, or too few bytes for them.
+pub enum Head {
+    Piece(u8, usize),
+    Cut,
+}
+
+// Where a record stands, as far as a rule asks.
+pub enum Role {
+    // a node in the root, a flow's or a stitch's list, a choice's body or a branch of a sequence
+    Node,
+    // a node directly in a branch of a conditional or a switch
+    Branch,
+    Cond,
+    // an expression that the steps on calls and variables visit
+    Visited,
+    // an expression that is directly an argument of a divert
+    Argument,
+    // an expression that no step visits
+    Unvisited,
+}
+
+// How a payload is read: so many expressions; a name; a name and expressions; the kinds 8, 9, 10, 13 and 14.
+pub enum Body {
+    Exprs(u8, Role),
+    Single,
+    Call(Role),
+    Conditional,
+    Switch,
+    Sequence,
+    Assign,
+    Choice,
+}
+
+pub enum Kinded {
+    Known(Body),
+    None,
+}
+
+fn wide(b: u8) -> usize
+    ensures { λ r. ⌜ r ≡ b ⌝ }
+{
+    b as usize
+}
+
+// A little-endian 32-bit number.
+pub fn word(a: u8, b: u8, c: u8, d: u8) -> usize
+    ensures { λ r. ⌜ r ≡ le32 a b c d ⌝ }
+{
+    wide(a) + wide(b) * 256 + wide(c) * 65536 + wide(d) * 16777216
+}
+
+// The head of the record at the front of s.
+pub fn read_head(s: &[u8]) -> Head
+    ensures { λ r. ⌜ r ≡ headOf (now (s .entry)) ⌝ }
+{
+    if s.len() < 5 {
+        return Head::Cut;
+    }
+    let n = word(s[1], s[2], s[3], s[4]);
+    if s.len() - 5 < n {
+        return Head::Cut;
+    }
+    Head::Piece(s[0], n)
+}
+
+// The length of the list at the front of s.
+pub fn read_list(s: &[u8]) -> Span
+    ensures { λ r. ⌜ r ≡ listOf (now (s .entry)) ⌝ }
+{
+    if s.len() < 4 {
+        return Span::Cut;
+    }
+    let n = word(s[0], s[1], s[2], s[3]);
+    if s.len() - 4 < n {
+        return Span::Cut;
+    }
+    Span::Bytes(n)
+}
+
+// The name at the front of s.
+pub fn read_name(s: &[u8]) -> NameRead
+    ensures { λ r. ⌜ r ≡ nameOf (now (s .entry)) ⌝ }
+{
+    if s.len() < 1 {
+        return NameRead::Refused(Refusal::Short);
+    }
+    let n = wide(s[0]);
+    if s.len() - 1 < n {
+        return NameRead::Refused(Refusal::Short);
+    }
+    NameRead::Bytes(n)
+}
+
+// The flag at the front of s.
+pub fn read_flag(s: &[u8]) -> FlagRead
+    ensures { λ r. ⌜ r ≡ flagOf (now (s .entry)) ⌝ }
+{
+    if s.len() < 1 {
+        return FlagRead::Refused(Refusal::Short);
+    }
+    let byte = s[0];
+    match byte {
+        0 => FlagRead::Off,
+        1 => FlagRead::On,
+        2..=255 => FlagRead::Refused(Refusal::Unknown),
+    }
+}
+
+// The kinds of expressions; those inside it have the role `inner`.
+pub fn expr_kind(kind: u8, inner: Role) -> Kinded
+    ensures { λ r. ⌜ r ≡ exprKind inner kind ⌝ }
+{
+    match kind {
+        0 => Kinded::Known(Body::Exprs(0, inner)),
+        1 => Kinded::Known(Body::Single),
+        2 => Kinded::Known(Body::Single),
+        3 => Kinded::Known(Body::Exprs(1, inner)),
+        4 => Kinded::Known(Body::Exprs(1, inner)),
+        5 => Kinded::Known(Body::Call(inner)),
+        6 => Kinded::Known(Body::Exprs(2, inner)),
+        7..=255 => Kinded::None,
+    }
+}
+
+// The kinds of conditions.
+pub fn cond_kind(kind: u8) -> Kinded
+    ensures { λ r. ⌜ r ≡ condKind kind ⌝ }
+{
+    match kind {
+        0 => Kinded::Known(Body::Exprs(0, Role::Visited)),
+        1 => Kinded::Known(Body::Single),
+        2 => Kinded::Known(Body::Exprs(1, Role::Visited)),
+        3..=255 => Kinded::None,
+    }
+}
+
+// The kinds of nodes.
+pub fn node_kind(kind: u8) -> Kinded
+    ensures { λ r. ⌜ r ≡ nodeKind kind ⌝ }
+{
+    match kind {
+        0 => Kinded::Known(Body::Exprs(0, Role::Visited)),
+        1 => Kinded::Known(Body::Exprs(0, Role::Visited)),
+        2 => Kinded::Known(Body::Exprs(1, Role::Visited)),
+        3 => Kinded::Known(Body::Call(Role::Argument)),
+        4 => Kinded::Known(Body::Call(Role::Argument)),
+        5 => Kinded::Known(Body::Call(Role::Argument)),
+        6 => Kinded::Known(Body::Exprs(0, Role::Visited)),
+        7 => Kinded::Known(Body::Call(Role::Unvisited)),
+        8 => Kinded::Known(Body::Conditional),
+        9 => Kinded::Known(Body::Switch),
+        10 => Kinded::Known(Body::Sequence),
+        11 => Kinded::Known(Body::Exprs(0, Role::Visited)),
+        12 => Kinded::Known(Body::Exprs(1, Role::Visited)),
+        13 => Kinded::Known(Body::Assign),
+        14 => Kinded::Known(Body::Choice),
+        15 => Kinded::Known(Body::Single),
+        16 => Kinded::Known(Body::Call(Role::Visited)),
+        17..=255 => Kinded::None,
+    }
+}
+
+// How the payload of a record of a role and a kind is read.
+pub fn read_kind(role: Role, kind: u8) -> Kinded
+    ensures { λ r. ⌜ r ≡ kindOf role kind ⌝ }
+{
+    match role {
+        Role::Node => node_kind(kind),
+        Role::Branch => node_kind(kind),
+        Role::Cond => cond_kind(kind),
+        Role::Visited => expr_kind(kind, Role::Visited),
+        Role::Argument => expr_kind(kind, Role::Unvisited),
+        Role::Unvisited => expr_kind(kind, Role::Unvisited),
+    }
+}
+
+// A number for each role.
+fn role_number(role: Role) -> u32
+    ensures { λ r. ⌜ r ≡ roleNumber role ⌝ }
+{
+    match role {
+        Role::Node => 0,
+        Role::Branch => 1,
+        Role::Cond => 2,
+        Role::Visited => 3,
+        Role::Argument => 4,
+        Role::Unvisited => 5,
+    }
+}
+
+// Role and kind as one number.
+pub fn tag(role: Role, kind: u8) -> u32
+    ensures { λ r. ⌜ r ≡ tagOf role kind ⌝ }
+{
+    role_number(role) * 256 + (kind as u32)
+}
+
+// How far the record at the front of s reaches.
+pub fn front_span(s: &[u8]) -> usize
+    ensures { λ r. ⌜ r ≡ headSpan (headOf (now (s .entry))) ⌝ }
+{
+    let h = read_head(s);
+    match h {
+        Head::Piece(_, len) => 5 + len,
+        Head::Cut => 0,
+    }
+}
+
+// How far the flag and the expression at the front of a switch's branch reach.
+pub fn test_span(s: &[u8]) -> usize
+    ensures { λ r. ⌜ r ≡ testSpan (now (s .entry)) ⌝ }
+{
+    let flag = read_flag(s);
+    match flag {
+        FlagRead::Off => 1,
+        FlagRead::On => 1 + front_span(&s[1..]),
+        FlagRead::Refused(_) => 1,
+    }
+}
