@@ -1,0 +1,36 @@
+-- `walk_assign`: a mode, a name and an expression. Assumes nothing.
+use Prim.Native.Nat.{ℕ}
+use native.Mathlib.Omega.{arith}
+use Rattle.fields.specs.declared.Role.the-variants.{Visited}
+use Rattle.records.specs.Grammar.{recordOf, named, exact}
+use Rattle.records.specs.Work.{st, noting}
+use Rattle.records.proofs.Walking.{moded-cut, moded-on, moded-no}
+use borrow.Author.Needs.{needs}
+use Rattle.records.proofs.walk_assign.Reads as walk-assign
+use Rattle.records.proofs.+walk_arms+walk_assign+walk_body+walk_branches+walk_call+walk_choice+walk_conditional+walk_else+walk_exact+walk_first+walk_label+walk_last+walk_list+walk_lists+walk_options+walk_record+walk_set+walk_switch+walk_test.Lts-walk_assign as lts
+use Rattle.records.proofs.+walk_arms+walk_assign+walk_body+walk_branches+walk_call+walk_choice+walk_conditional+walk_else+walk_exact+walk_first+walk_label+walk_last+walk_list+walk_lists+walk_options+walk_record+walk_set+walk_switch+walk_test.Proof.Base.{walk-assign-at, walk-assign-uses}
+
+module _ (t : ℕ) where
+  cut : lts.Need-returns (walk-assign-uses t) (walk-assign-at t) walk-assign.Post
+  cut c =
+      let a = c .before .before .before .args in
+      moded-cut (noting (a .skip)) (a .base) (st (a .out .now) (a .n)) (named (exact 1 (recordOf (a .left) Visited))) (a .s .now) (omega (arith, c .if1 .taken))
+
+  add-base : lts.Need-add-walk-set (walk-assign-uses t) (walk-assign-at t) walk-assign.Post
+  add-base c = omega (arith, c .before .before .before .if1 .left, c .before .before .before .before .before .before .pre .1)
+
+  rest-requires : lts.Need-walk-set-requires (walk-assign-uses t) (walk-assign-at t) walk-assign.Post
+  rest-requires c κs = omega (arith, c .before .before .before .before .if1 .left, c .before .walk-set-arg .given .2, c .before .before .before .before .before .before .before .pre .0, c .before .before .before .before .before .before .before .pre .1)
+
+  rest : lts.Need-returns-2 (walk-assign-uses t) (walk-assign-at t) walk-assign.Post
+  rest c =
+      let a = c .before .before .before .before .before .before .before .before .before .before .args in
+      rw (moded-on (noting (a .skip)) (a .base) (st (a .out .now) (a .n)) (named (exact 1 (recordOf (a .left) Visited))) (a .s .now) (omega (arith, c .before .before .before .before .before .before .before .if1 .left)) (omega (arith, c .before .before .before .before .before .if2 .taken))) (c .before .before .walk-set .ensures)
+
+  unknown : lts.Need-returns-3 (walk-assign-uses t) (walk-assign-at t) walk-assign.Post
+  unknown c =
+      let a = c .before .before .before .before .before .args in
+      moded-no (noting (a .skip)) (a .base) (st (a .out .now) (a .n)) (named (exact 1 (recordOf (a .left) Visited))) (a .s .now) (omega (arith, c .before .before .if1 .left)) (omega (arith, c .if2 .left))
+
+  pub ok : {M : Type 1} → lts.Closed (walk-assign-uses t) (walk-assign-at t) walk-assign.Post M
+  ok = lts.spec (walk-assign-uses t) (walk-assign-at t) walk-assign.Post cut (λ c. search needs) (λ c. search needs) (λ c. search needs) (λ c. search needs) add-base rest-requires (λ c. search needs) rest unknown

@@ -1,0 +1,44 @@
+-- `walk_label`: the label, then conditions and nodes. Assumes nothing.
+use Prim.Native.Nat.{ℕ, _+_, _≤_}
+use native.Mathlib.Omega.{arith}
+use lib.ListN.{length}
+use Rattle.records.specs.Grammar.{recordOf, options}
+use Rattle.records.specs.Work.{st, noting}
+use Rattle.fields.proofs.Laws.{name-fits}
+use Rattle.records.proofs.Walking.{named-refused, named-on}
+use borrow.Author.Needs.{needs}
+use Rattle.records.proofs.walk_label.Reads as walk-label
+use Rattle.records.proofs.+walk_arms+walk_assign+walk_body+walk_branches+walk_call+walk_choice+walk_conditional+walk_else+walk_exact+walk_first+walk_label+walk_last+walk_list+walk_lists+walk_options+walk_record+walk_set+walk_switch+walk_test.Lts-walk_label as lts
+use Rattle.records.proofs.+walk_arms+walk_assign+walk_body+walk_branches+walk_call+walk_choice+walk_conditional+walk_else+walk_exact+walk_first+walk_label+walk_last+walk_list+walk_lists+walk_options+walk_record+walk_set+walk_switch+walk_test.Proof.Base.{walk-label-at, walk-label-uses}
+
+module _ (t : ℕ) where
+  fits : (c : lts.After-known-told2 (walk-label-uses t) (walk-label-at t) walk-label.Post) → 1 + c .before .answer2 .given .0 .0 ≤ length (c .before .before .before .before .before .before .args .s .now)
+  fits c = name-fits (c .before .before .before .before .before .before .args .s .now) (c .before .answer2 .given .0 .0) (c .before .before .before .read-name .ensures) (c .before .answer2 .given .1)
+
+  cut : lts.Need-returns (walk-label-uses t) (walk-label-at t) walk-label.Post
+  cut c =
+      let a = c .before .before .before .before .before .before .args in
+      named-refused (noting (a .skip)) (a .base) (st (a .out .now) (a .n)) (options (recordOf (a .left))) (a .s .now) (c .before .answer .given .0 .0) (c .before .before .before .read-name .ensures) (c .before .answer .given .1)
+
+  add-e : lts.Need-add-e (walk-label-uses t) (walk-label-at t) walk-label.Post
+  add-e c = omega (arith, fits c)
+
+  sub-rest : lts.Need-sub-walk-options (walk-label-uses t) (walk-label-at t) walk-label.Post
+  sub-rest c = fits c
+
+  part-rest : lts.Need-part-walk-options-start (walk-label-uses t) (walk-label-at t) walk-label.Post
+  part-rest c = omega (arith, fits c)
+
+  add-base : lts.Need-add-walk-options (walk-label-uses t) (walk-label-at t) walk-label.Post
+  add-base c = omega (arith, fits (c .before), c .before .before .before .before .before .before .before .pre .1)
+
+  rest-requires : lts.Need-walk-options-requires (walk-label-uses t) (walk-label-at t) walk-label.Post
+  rest-requires c κs = omega (arith, fits (c .before .before), c .before .walk-options-arg .given .2, c .before .before .before .before .before .before .before .before .pre .0, c .before .before .before .before .before .before .before .before .pre .1)
+
+  rest : lts.Need-returns-2 (walk-label-uses t) (walk-label-at t) walk-label.Post
+  rest c =
+      let a = c .before .before .before .before .before .before .before .before .before .before .before .args in
+      rw (named-on (noting (a .skip)) (a .base) (st (a .out .now) (a .n)) (options (recordOf (a .left))) (a .s .now) (c .before .before .before .before .before .before .answer2 .given .0 .0) (c .before .before .before .before .before .before .before .before .read-name .ensures) (c .before .before .before .before .before .before .answer2 .given .1)) (c .before .before .walk-options .ensures)
+
+  pub ok : {M : Type 1} → lts.Closed (walk-label-uses t) (walk-label-at t) walk-label.Post M
+  ok = lts.spec (walk-label-uses t) (walk-label-at t) walk-label.Post (λ c κs. search needs) (λ c. search needs) (λ c. search needs) add-e sub-rest part-rest (λ c. search needs) add-base rest-requires cut (λ c. search needs) rest

@@ -1,0 +1,90 @@
+-- `walk_list`: records of a role to the end, by a loop over what is left. Assumes nothing.
+use Prim.Native.Nat.{ℕ, _+_, _≤_}
+use mathlib.Core.Path.{_≡_, refl, _∙_}
+use native.Mathlib.Omega.{arith}
+use lib.ListN.{length}
+use denote.Enum.Declared.{tagOf}
+use Rattle.records.proofs.Walk.{the-type}
+use Rattle.records.specs.Work.{run}
+use Rattle.records.specs.Grammar.{recordOf, repeat, front}
+use Rattle.records.specs.Work.{st, noting}
+use Rattle.fields.proofs.Laws.{head-fits}
+use Rattle.records.proofs.Readings.{repeat-none, repeat-step, front-local}
+use Rattle.records.proofs.Walking.{front-cut, front-else, front-on, not-done, told-done}
+use borrow.Author.Needs.{needs}
+use Rattle.records.proofs.walk_list.Reads as walk-list
+use Rattle.records.proofs.+walk_arms+walk_assign+walk_body+walk_branches+walk_call+walk_choice+walk_conditional+walk_else+walk_exact+walk_first+walk_label+walk_last+walk_list+walk_lists+walk_options+walk_record+walk_set+walk_switch+walk_test.Lts-walk_list as lts
+use Rattle.records.proofs.+walk_arms+walk_assign+walk_body+walk_branches+walk_call+walk_choice+walk_conditional+walk_else+walk_exact+walk_first+walk_label+walk_last+walk_list+walk_lists+walk_options+walk_record+walk_set+walk_switch+walk_test.Proof.Base.{walk-list-at, walk-list-uses}
+
+-- what is left stands at `at`, and the run of the whole is the run of what is left
+abbrev Inv : lts.InvT-loop
+Inv s role base left skip out₀ n t₀ at₀ count₀ out t at count =
+    ((at + length t ≡ base + length s) × (length t ≤ length s) × (length out ≡ length out₀))
+    × (run (noting skip) base (st out₀ n) (repeat (front (recordOf left role)) s) ≡ run (noting skip) at (st out count) (repeat (front (recordOf left role)) t))
+
+abbrev μ : lts.MeasureT-loop
+μ s role base left skip out₀ n t₀ at₀ count₀ out t at count = length t
+
+module _ (t : ℕ) where
+  holds : lts.Need-loop-holds (walk-list-uses t) (walk-list-at t) walk-list.Post Inv μ
+  holds c = (omega arith, refl)
+
+  fits : (c : lts.After-known-told (walk-list-uses t) (walk-list-at t) walk-list.Post Inv μ) → 5 + c .before .kind .given .0 .1 .0 ≤ length (c .before .before .before .before .before .loop .t .now)
+  fits c = head-fits (c .before .before .before .before .before .loop .t .now) (c .before .kind .given .0 .0) (c .before .kind .given .0 .1 .0) (c .before .before .before .read-head .ensures) (c .before .kind .given .1)
+
+  cut : lts.Need-returns (walk-list-uses t) (walk-list-at t) walk-list.Post Inv μ
+  cut c =
+      let a = c .before .before .before .before .before .before .before .args in
+      let l = c .before .before .before .before .loop in
+      rw (l .inv .1, repeat-step (front (recordOf (a .left) (a .role))) (front-local (recordOf (a .left) (a .role))) (l .t .now) (c .before .before .before .loop-test .taken))
+      (front-cut (noting (a .skip)) (l .at) (st (l .out) (l .count)) (recordOf (a .left) (a .role)) (repeat (front (recordOf (a .left) (a .role)))) (l .t .now) (c .before .before .read-head .ensures) (c .enum-told .given .1))
+
+  add-e : lts.Need-add-e (walk-list-uses t) (walk-list-at t) walk-list.Post Inv μ
+  add-e c = omega (arith, fits c)
+
+  part-end : lts.Need-part-walk-record-end (walk-list-uses t) (walk-list-at t) walk-list.Post Inv μ
+  part-end c = omega (arith, fits c)
+
+  piece-requires : lts.Need-walk-record-requires (walk-list-uses t) (walk-list-at t) walk-list.Post Inv μ
+  piece-requires c κs = omega (arith, fits (c .before .before), c .before .walk-record-arg .given .2, c .before .before .before .before .before .before .before .loop .inv .0, c .before .before .before .before .before .before .before .before .before .before .pre .0, c .before .before .before .before .before .before .before .before .before .before .pre .1)
+
+  other : lts.Need-returns-2 (walk-list-uses t) (walk-list-at t) walk-list.Post Inv μ
+  other c =
+      let a = c .before .before .before .before .before .before .before .before .before .before .before .before .before .before .before .args in
+      let l = c .before .before .before .before .before .before .before .before .before .before .before .before .loop in
+      let k = c .before .before .before .before .before .before .before .before .kind .given in
+      rw (l .inv .1, repeat-step (front (recordOf (a .left) (a .role))) (front-local (recordOf (a .left) (a .role))) (l .t .now) (c .before .before .before .before .before .before .before .before .before .before .before .loop-test .taken))
+      (front-else (noting (a .skip)) (l .at) (st (l .out) (l .count)) (recordOf (a .left) (a .role)) (repeat (front (recordOf (a .left) (a .role)))) (l .t .now) (k .0 .0) (k .0 .1 .0)
+      (c .before .before .before .before .before .before .before .before .before .before .read-head .ensures) (k .1) (c .before .before .before .before .walk-record .ensures) (not-done (tagOf the-type) (λ m. refl) (c .before .before .before .before .walk-record .result) (c .before .match2 .keys2)))
+
+  add-at : lts.Need-add-at (walk-list-uses t) (walk-list-at t) walk-list.Post Inv μ
+  add-at c = omega (arith, fits (c .before .before .before .before .before .before .before .before), c .before .before .before .before .before .before .before .before .before .before .before .before .before .loop .inv .0, c .before .before .before .before .before .before .before .before .before .before .before .before .before .before .before .before .pre .1)
+
+  sub-t : lts.Need-sub-t (walk-list-uses t) (walk-list-at t) walk-list.Post Inv μ
+  sub-t c = fits (c .before .before .before .before .before .before .before .before)
+
+  part-t : lts.Need-part-t-start (walk-list-uses t) (walk-list-at t) walk-list.Post Inv μ
+  part-t c = omega (arith, fits (c .before .before .before .before .before .before .before .before))
+
+  less : lts.Need-loop-less (walk-list-uses t) (walk-list-at t) walk-list.Post Inv μ
+  less c = omega (arith, fits (c .before .before .before .before .before .before .before .before .before), c .t .given .2)
+
+  again : lts.Need-loop-again (walk-list-uses t) (walk-list-at t) walk-list.Post Inv μ
+  again c =
+      let a = c .before .before .before .before .before .before .before .before .before .before .before .before .before .before .before .before .before .args in
+      let l = c .before .before .before .before .before .before .before .before .before .before .before .before .before .before .loop in
+      let k = c .before .before .before .before .before .before .before .before .before .before .kind .given in (
+        omega (arith, fits (c .before .before .before .before .before .before .before .before .before), c .t .given .2, l .inv .0, c .before .before .before .before .before .before .walk-record .kept),
+        l .inv .1 ∙ rw (repeat-step (front (recordOf (a .left) (a .role))) (front-local (recordOf (a .left) (a .role))) (l .t .now) (c .before .before .before .before .before .before .before .before .before .before .before .before .before .loop-test .taken))
+            (front-on (noting (a .skip)) (l .at) (st (l .out) (l .count)) (recordOf (a .left) (a .role)) (repeat (front (recordOf (a .left) (a .role)))) (l .t .now) (k .0 .0) (k .0 .1 .0) (c .before .before .w .given .0 .0)
+            (c .before .before .before .before .before .before .before .before .before .before .before .before .read-head .ensures) (k .1) (c .before .before .before .before .before .before .walk-record .ensures) (c .before .before .w .given .1)),
+      )
+
+  finished : lts.Need-returns-3 (walk-list-uses t) (walk-list-at t) walk-list.Post Inv μ
+  finished c =
+      let a = c .before .before .before .before .args in
+      let l = c .before .loop in
+      rw (l .inv .1) (told-done (noting (a .skip)) (l .at) (st (l .out) (l .count)) (repeat (front (recordOf (a .left) (a .role))) (l .t .now)) (repeat-none (front (recordOf (a .left) (a .role))) (l .t .now) (c .loop-test .left)))
+
+  pub ok : {M : Type 1} → lts.Closed (walk-list-uses t) (walk-list-at t) walk-list.Post M
+  ok = lts.spec (walk-list-uses t) (walk-list-at t) walk-list.Post Inv μ holds (λ c κs. search needs) (λ c. search needs) (λ c. search needs) (λ c. search needs) cut add-e (λ c. search needs) (λ c. search needs) part-end piece-requires (λ c. search needs) (λ c. search needs) (λ c. search needs) other add-at sub-t part-t (λ c. search needs) less again (λ c. search needs) finished

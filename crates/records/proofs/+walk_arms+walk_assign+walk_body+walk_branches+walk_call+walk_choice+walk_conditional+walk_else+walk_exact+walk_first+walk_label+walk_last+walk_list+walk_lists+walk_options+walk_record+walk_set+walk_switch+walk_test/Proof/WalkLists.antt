@@ -1,0 +1,94 @@
+-- `walk_lists`: lists of nodes to the end, by a loop over what is left. Assumes nothing.
+use Prim.Native.Nat.{ℕ, _+_, _≤_}
+use mathlib.Core.Path.{_≡_, refl, _∙_}
+use native.Mathlib.Omega.{arith}
+use lib.ListN.{length}
+use denote.Enum.Declared.{tagOf}
+use Rattle.records.proofs.Walk.{the-type}
+use Rattle.fields.specs.declared.Role.the-variants.{Node}
+use Rattle.records.specs.Work.{run}
+use Rattle.records.specs.Grammar.{recordOf, repeat, listed}
+use Rattle.records.specs.Work.{st, noting}
+use Rattle.fields.proofs.Laws.{list-fits}
+use Rattle.records.proofs.Readings.{repeat-none, repeat-step, listed-local}
+use Rattle.records.proofs.Walking.{listed-cut, listed-else, listed-on, not-done, told-done}
+use borrow.Author.Needs.{needs}
+use Rattle.records.proofs.walk_lists.Reads as walk-lists
+use Rattle.records.proofs.+walk_arms+walk_assign+walk_body+walk_branches+walk_call+walk_choice+walk_conditional+walk_else+walk_exact+walk_first+walk_label+walk_last+walk_list+walk_lists+walk_options+walk_record+walk_set+walk_switch+walk_test.Lts-walk_lists as lts
+use Rattle.records.proofs.+walk_arms+walk_assign+walk_body+walk_branches+walk_call+walk_choice+walk_conditional+walk_else+walk_exact+walk_first+walk_label+walk_last+walk_list+walk_lists+walk_options+walk_record+walk_set+walk_switch+walk_test.Proof.Base.{walk-lists-at, walk-lists-uses}
+
+-- what is left stands at `at`, and the run of the whole is the run of what is left
+abbrev Inv : lts.InvT-loop
+Inv s base left skip out₀ n t₀ at₀ count₀ out t at count =
+    ((at + length t ≡ base + length s) × (length t ≤ length s) × (length out ≡ length out₀))
+    × (run (noting skip) base (st out₀ n) (repeat (listed (recordOf left Node)) s) ≡ run (noting skip) at (st out count) (repeat (listed (recordOf left Node)) t))
+
+abbrev μ : lts.MeasureT-loop
+μ s base left skip out₀ n t₀ at₀ count₀ out t at count = length t
+
+module _ (t : ℕ) where
+  holds : lts.Need-loop-holds (walk-lists-uses t) (walk-lists-at t) walk-lists.Post Inv μ
+  holds c = (omega arith, refl)
+
+  fits : (c : lts.After-known-told (walk-lists-uses t) (walk-lists-at t) walk-lists.Post Inv μ) → 4 + c .before .len .given .0 .0 ≤ length (c .before .before .before .before .before .loop .t .now)
+  fits c = list-fits (c .before .before .before .before .before .loop .t .now) (c .before .len .given .0 .0) (c .before .before .before .read-list .ensures) (c .before .len .given .1)
+
+  cut : lts.Need-returns (walk-lists-uses t) (walk-lists-at t) walk-lists.Post Inv μ
+  cut c =
+      let a = c .before .before .before .before .before .before .before .args in
+      let l = c .before .before .before .before .loop in
+      rw (l .inv .1, repeat-step (listed (recordOf (a .left) Node)) (listed-local (recordOf (a .left) Node)) (l .t .now) (c .before .before .before .loop-test .taken))
+      (listed-cut (noting (a .skip)) (l .at) (st (l .out) (l .count)) (recordOf (a .left) Node) (repeat (listed (recordOf (a .left) Node))) (l .t .now) (c .before .before .read-list .ensures) (c .enum-told .given .1))
+
+  add-e : lts.Need-add-e (walk-lists-uses t) (walk-lists-at t) walk-lists.Post Inv μ
+  add-e c = omega (arith, fits c)
+
+  part-end : lts.Need-part-walk-list-end (walk-lists-uses t) (walk-lists-at t) walk-lists.Post Inv μ
+  part-end c = omega (arith, fits c)
+
+  add-4 : lts.Need-add-walk-list (walk-lists-uses t) (walk-lists-at t) walk-lists.Post Inv μ
+  add-4 c = omega (arith, fits (c .before), c .before .before .before .before .before .before .loop .inv .0, c .before .before .before .before .before .before .before .before .before .pre .1)
+
+  piece-requires : lts.Need-walk-list-requires (walk-lists-uses t) (walk-lists-at t) walk-lists.Post Inv μ
+  piece-requires c κs = omega (arith, fits (c .before .before), c .before .walk-list-arg .given .2, c .before .before .before .before .before .before .before .loop .inv .0, c .before .before .before .before .before .before .before .before .before .before .pre .0, c .before .before .before .before .before .before .before .before .before .before .pre .1)
+
+  other : lts.Need-returns-2 (walk-lists-uses t) (walk-lists-at t) walk-lists.Post Inv μ
+  other c =
+      let a = c .before .before .before .before .before .before .before .before .before .before .before .before .before .before .before .args in
+      let l = c .before .before .before .before .before .before .before .before .before .before .before .before .loop in
+      let k = c .before .before .before .before .before .before .before .before .len .given in
+      rw (l .inv .1, repeat-step (listed (recordOf (a .left) Node)) (listed-local (recordOf (a .left) Node)) (l .t .now) (c .before .before .before .before .before .before .before .before .before .before .before .loop-test .taken))
+      (listed-else (noting (a .skip)) (l .at) (st (l .out) (l .count)) (recordOf (a .left) Node) (repeat (listed (recordOf (a .left) Node))) (l .t .now) (k .0 .0)
+      (c .before .before .before .before .before .before .before .before .before .before .read-list .ensures) (k .1) (c .before .before .before .before .walk-list .ensures) (not-done (tagOf the-type) (λ m. refl) (c .before .before .before .before .walk-list .result) (c .before .match2 .keys2)))
+
+  add-at : lts.Need-add-at (walk-lists-uses t) (walk-lists-at t) walk-lists.Post Inv μ
+  add-at c = omega (arith, fits (c .before .before .before .before .before .before .before .before), c .before .before .before .before .before .before .before .before .before .before .before .before .before .loop .inv .0, c .before .before .before .before .before .before .before .before .before .before .before .before .before .before .before .before .pre .1)
+
+  sub-t : lts.Need-sub-t (walk-lists-uses t) (walk-lists-at t) walk-lists.Post Inv μ
+  sub-t c = fits (c .before .before .before .before .before .before .before .before)
+
+  part-t : lts.Need-part-t-start (walk-lists-uses t) (walk-lists-at t) walk-lists.Post Inv μ
+  part-t c = omega (arith, fits (c .before .before .before .before .before .before .before .before))
+
+  less : lts.Need-loop-less (walk-lists-uses t) (walk-lists-at t) walk-lists.Post Inv μ
+  less c = omega (arith, fits (c .before .before .before .before .before .before .before .before .before), c .t .given .2)
+
+  again : lts.Need-loop-again (walk-lists-uses t) (walk-lists-at t) walk-lists.Post Inv μ
+  again c =
+      let a = c .before .before .before .before .before .before .before .before .before .before .before .before .before .before .before .before .before .args in
+      let l = c .before .before .before .before .before .before .before .before .before .before .before .before .before .before .loop in
+      let k = c .before .before .before .before .before .before .before .before .before .before .len .given in (
+        omega (arith, fits (c .before .before .before .before .before .before .before .before .before), c .t .given .2, l .inv .0, c .before .before .before .before .before .before .walk-list .kept),
+        l .inv .1 ∙ rw (repeat-step (listed (recordOf (a .left) Node)) (listed-local (recordOf (a .left) Node)) (l .t .now) (c .before .before .before .before .before .before .before .before .before .before .before .before .before .loop-test .taken))
+            (listed-on (noting (a .skip)) (l .at) (st (l .out) (l .count)) (recordOf (a .left) Node) (repeat (listed (recordOf (a .left) Node))) (l .t .now) (k .0 .0) (c .before .before .w .given .0 .0)
+            (c .before .before .before .before .before .before .before .before .before .before .before .before .read-list .ensures) (k .1) (c .before .before .before .before .before .before .walk-list .ensures) (c .before .before .w .given .1)),
+      )
+
+  finished : lts.Need-returns-3 (walk-lists-uses t) (walk-lists-at t) walk-lists.Post Inv μ
+  finished c =
+      let a = c .before .before .before .before .args in
+      let l = c .before .loop in
+      rw (l .inv .1) (told-done (noting (a .skip)) (l .at) (st (l .out) (l .count)) (repeat (listed (recordOf (a .left) Node)) (l .t .now)) (repeat-none (listed (recordOf (a .left) Node)) (l .t .now) (c .loop-test .left)))
+
+  pub ok : {M : Type 1} → lts.Closed (walk-lists-uses t) (walk-lists-at t) walk-lists.Post M
+  ok = lts.spec (walk-lists-uses t) (walk-lists-at t) walk-lists.Post Inv μ holds (λ c κs. search needs) (λ c. search needs) (λ c. search needs) (λ c. search needs) cut add-e (λ c. search needs) (λ c. search needs) part-end add-4 piece-requires (λ c. search needs) (λ c. search needs) (λ c. search needs) other add-at sub-t part-t (λ c. search needs) less again (λ c. search needs) finished

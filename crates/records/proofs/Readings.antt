@@ -1,0 +1,111 @@
+-- Laws of readings: pieces to the end, and a piece with what follows it. Assumes nothing.
+use mathlib.Core.Path.{_≡_, refl, sym, ap}
+use mathlib.Core.List.{List, [], _∷_}
+use Prim.Native.Nat.{ℕ, zero, suc, _+_, _-_, _≤_, _<_}
+use native.Mathlib.Numerals.{sub-one}
+use native.Mathlib.Omega.{arith}
+use lib.ListN.{length, take, drop, length-drop}
+use lib.Seq.{drop-drop}
+use Rattle.fields.specs.declared.Refusal.the-variants.{Short}
+use Rattle.fields.specs.declared.Role.{Role}
+use Rattle.fields.specs.declared.Role.the-variants.{Branch, Visited}
+use Rattle.fields.specs.declared.Head.{Head}
+use Rattle.fields.specs.declared.Head.the-variants as head
+use Rattle.fields.specs.declared.Span.{Span}
+use Rattle.fields.specs.declared.Span.the-variants as span
+use Rattle.fields.specs.declared.FlagRead.{FlagRead}
+use Rattle.fields.specs.declared.FlagRead.the-variants as flag
+use Rattle.fields.specs.Bytes.{headOf, listOf, flagOf, headSpan, testSpanAt, testSpan}
+use Rattle.records.specs.Trace.{done, andThen, shift}
+use Rattle.records.specs.Grammar.{Reading, Reader, frontAt, front, nothing, repeatN, repeat, exact, ending, listedAt, listed, flaggedAt, tested, branch}
+use Rattle.records.proofs.Traces.{shift-then, shift-shift, then-done, done-then, refuse-then, shift-done}
+
+-- 1. Pieces to the end
+
+-- g looks at what it is given only where bytes are gone
+pub Local : (Reading → Reading) → Type 0
+Local g = (s : List ℕ) (j k : Reading) → ((a : ℕ) → 0 < a → j (drop a s) ≡ k (drop a s)) → g j s ≡ g k s
+
+pub front-local : (f : Reader) → Local (front f)
+unfolding Local frontAt
+front-local f s j k e = by-head (headOf s)
+  where
+    by-head : (h : Head) → frontAt h f j s ≡ frontAt h f k s
+    by-head (head.Piece kind n) = rw (e (5 + n) (omega arith))
+    by-head head.Cut = refl
+
+pub listed-local : (f : Reader) → Local (listed f)
+unfolding Local listedAt
+listed-local f s j k e = by-span (listOf s)
+  where
+    by-span : (h : Span) → listedAt h f j s ≡ listedAt h f k s
+    by-span (span.Bytes n) = rw (e (4 + n) (omega arith))
+    by-span span.Cut = refl
+
+pub branch-local : (f : Role → Reader) → Local (branch f)
+unfolding Local branch tested flaggedAt
+branch-local f s j k e = by-flag (flagOf s)
+  where
+    in-list : (a : ℕ) → listed (f Branch) j (drop a (drop 1 s)) ≡ listed (f Branch) k (drop a (drop 1 s))
+    in-list a = listed-local (f Branch) (drop a (drop 1 s)) j k (λ c h. rw (drop-drop a 1 s, drop-drop c (1 + a) s) (e (1 + a + c) (omega arith)))
+
+    by-flag : (x : FlagRead) → flaggedAt x (listed (f Branch) j) (front (f Visited) (listed (f Branch) j)) s
+        ≡ flaggedAt x (listed (f Branch) k) (front (f Visited) (listed (f Branch) k)) s
+    by-flag flag.Off = ap (shift 1) (in-list 0)
+    by-flag flag.On = ap (shift 1) (front-local (f Visited) (drop 1 s) (listed (f Branch) j) (listed (f Branch) k) (λ a h. in-list a))
+    by-flag (flag.Refused r) = refl
+
+-- as many pieces as there are bytes are enough
+enough : (g : Reading → Reading) → Local g → (n m : ℕ) (s : List ℕ) → length s ≤ n → length s ≤ m → repeatN n g s ≡ repeatN m g s
+unfolding repeatN Local
+enough g l zero zero s p q = refl
+enough g l zero (suc m) [] p q = refl
+enough g l zero (suc m) (x ∷ s) p q = absurd (omega arith)
+enough g l (suc n) zero [] p q = refl
+enough g l (suc n) zero (x ∷ s) p q = absurd (omega arith)
+enough g l (suc n) (suc m) [] p q = refl
+enough g l (suc n) (suc m) (x ∷ s) p q =
+    l (x ∷ s) (repeatN n g) (repeatN m g) (λ a h. enough g l n m (drop a (x ∷ s)) (omega (arith, length-drop a (x ∷ s))) (omega (arith, length-drop a (x ∷ s))))
+
+pub repeat-none : (g : Reading → Reading) (s : List ℕ) → length s ≤ 0 → repeat g s ≡ done
+unfolding repeat repeatN
+repeat-none g [] p = refl
+repeat-none g (x ∷ s) p = absurd (omega arith)
+
+-- the first piece, then the others
+pub repeat-step : (g : Reading → Reading) → Local g → (s : List ℕ) → 0 < length s → repeat g s ≡ g (repeat g) s
+unfolding repeat repeatN Local
+repeat-step g l [] p = absurd (omega arith)
+repeat-step g l (x ∷ s) p =
+    l (x ∷ s) (repeatN (length s) g) (repeat g) (λ a h. enough g l (length s) (length (drop a (x ∷ s))) (drop a (x ∷ s)) (omega (arith, length-drop a (x ∷ s))) (omega arith))
+
+-- 2. So many records
+
+pub exact-step : (many : ℕ) (f : Reader) (s : List ℕ) → (many ≡ 0 → ⊥) → exact many f s ≡ front f (exact (many - 1) f) s
+unfolding exact
+exact-step zero f s p = absurd (p refl)
+exact-step (suc many) f s p = rw (sub-one (suc many))
+
+pub exact-end : (many : ℕ) (f : Reader) (s : List ℕ) → many ≡ 0 → exact many f s ≡ ending s
+unfolding exact
+exact-end many f s e = rw e
+
+-- 3. A piece, and what follows it
+
+pub front-then : (f : Reader) (k : Reading) (s : List ℕ) (h : Head) → frontAt h f k s ≡ andThen (frontAt h f nothing s) (shift (headSpan h) (k (drop (headSpan h) s)))
+unfolding frontAt headSpan
+front-then f k s (head.Piece kind n) = rw (shift-done (5 + n), then-done (f kind (take n (drop 5 s))))
+front-then f k s head.Cut = sym (refuse-then Short (shift 0 (k (drop 0 s))))
+
+-- the flag and the expression of a branch, then the rest
+pub tested-then : (f : Role → Reader) (k : Reading) (s : List ℕ) → tested f k s ≡ andThen (tested f nothing s) (shift (testSpan s) (k (drop (testSpan s) s)))
+unfolding tested flaggedAt testSpanAt
+tested-then f k s = by-flag (flagOf s)
+  where
+    by-flag : (x : FlagRead) → flaggedAt x k (front (f Visited) k) s
+        ≡ andThen (flaggedAt x nothing (front (f Visited) nothing) s) (shift (testSpanAt x s) (k (drop (testSpanAt x s) s)))
+    by-flag flag.Off = rw (shift-done 1) (sym (done-then (shift 1 (k (drop 1 s)))))
+    by-flag flag.On =
+        let n = headSpan (headOf (drop 1 s)) in
+        rw (front-then (f Visited) k (drop 1 s) (headOf (drop 1 s)), shift-then 1 (front (f Visited) nothing (drop 1 s)) (shift n (k (drop n (drop 1 s)))), shift-shift 1 n (k (drop n (drop 1 s))), drop-drop n 1 s)
+    by-flag (flag.Refused r) = sym (refuse-then r (shift 1 (k (drop 1 s))))

@@ -1,0 +1,22 @@
+-- `walk_nodes`: the walk of a list with 64 levels left, from record number 0 on. Assumes nothing.
+use native.Mathlib.Omega.{arith}
+use borrow.Author.Needs.{needs}
+use Rattle.records.specs.Grammar.{nodes}
+use Rattle.records.proofs.Notes.{walked-nodes}
+use Rattle.records.proofs.walk_nodes.Statement.{statement}
+use Rattle.records.proofs.walk_nodes.Tie as tie
+
+walk-list-requires : tie.Need-walk-list-requires
+walk-list-requires c κs = search needs
+
+same-length : tie.Need-same-length
+same-length c = search needs
+
+returns : tie.Need-returns
+unfolding nodes
+returns c =
+    let a = c .before .before .before .before .before .before .args in
+    walked-nodes (a .s .now) (a .base) (a .skip) (omega (arith, c .before .before .before .before .before .before .pre)) (c .before .before .walk-list .ensures)
+
+pub walk-nodes-spec : {M : Type 1} → statement M
+walk-nodes-spec = tie.close (tie.spec walk-list-requires same-length returns)

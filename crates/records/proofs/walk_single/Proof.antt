@@ -1,0 +1,64 @@
+-- `walk_single`: the name, then nothing. Assumes nothing.
+use Prim.Native.Nat.{_+_, _≤_}
+use native.Mathlib.Omega.{arith}
+use lib.ListN.{length}
+use Rattle.fields.proofs.Laws.{name-fits}
+use Rattle.records.specs.Grammar.{ending}
+use Rattle.records.specs.Work.{st, noting}
+use Rattle.records.proofs.Walking.{named-refused, named-on, told-end}
+use borrow.Author.Needs.{needs}
+use Rattle.records.proofs.walk_single.Statement.{statement}
+use Rattle.records.proofs.walk_single.Tie as tie
+
+fits : (c : tie.After-known-told2) → 1 + c .before .answer2 .given .0 .0 ≤ length (c .before .before .before .before .before .before .args .s .now)
+fits c = name-fits (c .before .before .before .before .before .before .args .s .now) (c .before .answer2 .given .0 .0) (c .before .before .before .read-name .ensures) (c .before .answer2 .given .1)
+
+read-name-requires : tie.Need-read-name-requires
+read-name-requires c κs = search needs
+
+enum-known-answer : tie.Need-enum-known-answer
+enum-known-answer c = search needs
+
+enum-known-answer-2 : tie.Need-enum-known-answer-2
+enum-known-answer-2 c = search needs
+
+add-e : tie.Need-add-e
+add-e c = omega (arith, fits c)
+
+sub-at-end : tie.Need-sub-at-end
+sub-at-end c = omega (arith, fits c)
+
+part-at-end-start : tie.Need-part-at-end-start
+part-at-end-start c = omega (arith, fits c)
+
+part-at-end-end : tie.Need-part-at-end-end
+part-at-end-end c = search needs
+
+at-end-requires : tie.Need-at-end-requires
+at-end-requires c κs = search needs
+
+returns : tie.Need-returns
+returns c =
+    let a = c .before .before .before .before .before .before .args in
+    named-refused (noting (a .skip)) (a .base) (st (a .out .now) (a .n)) ending (a .s .now) (c .before .answer .given .0 .0) (c .before .before .before .read-name .ensures) (c .before .answer .given .1)
+
+returns-2 : tie.Need-returns-2
+returns-2 c =
+    let a = c .before .before .before .before .before .before .before .before .args in
+    rw (named-on (noting (a .skip)) (a .base) (st (a .out .now) (a .n)) ending (a .s .now) (c .before .before .before .answer2 .given .0 .0) (c .before .before .before .before .before .read-name .ensures) (c .before .before .before .answer2 .given .1))
+    (told-end (noting (a .skip)) _ _ _ (c .at-end .ensures))
+
+pub walk-single-spec : {M : Type 1} → statement M
+walk-single-spec =
+    tie.close
+    (tie.spec
+    read-name-requires
+    enum-known-answer
+    enum-known-answer-2
+    add-e
+    sub-at-end
+    part-at-end-start
+    part-at-end-end
+    at-end-requires
+    returns
+    returns-2)

@@ -1,0 +1,6 @@
+pub mod Trace
+pub mod Grammar
+pub mod Window
+pub mod Work
+pub mod Sorted
+pub mod Stands
