@@ -1,0 +1,184 @@
+-- How far names, lists and headings reach: within the bytes, and as the grammar reads them. Assumes nothing.
+use mathlib.Core.Path.{_≡_, refl, sym, _∙_, ap}
+use mathlib.Core.List.{List, [], _∷_}
+use mathlib.Core.Bool.{Bool, true, false}
+use Prim.Native.Nat.{ℕ, zero, suc, _+_, _-_, _≤_, _<_}
+use native.Mathlib.Nat.{add-assoc, add-sub-cancel-left}
+use native.Mathlib.Numerals.{sub-one}
+use native.Mathlib.Omega.{arith}
+use lib.Dec.{ltb}
+use lib.ListN.{length, getD, take, drop, length-drop}
+use lib.Seq.{drop-drop, drop-cons}
+use borrow.Author.Tests.{ltb-true, ltb-false}
+use Rattle.fields.specs.declared.Refusal.{Refusal}
+use Rattle.fields.specs.declared.Refusal.the-variants.{Short}
+use Rattle.fields.specs.declared.Role.the-variants.{Node}
+use Rattle.fields.specs.declared.NameRead.{NameRead}
+use Rattle.fields.specs.declared.NameRead.the-variants as name
+use Rattle.fields.specs.declared.Span.{Span}
+use Rattle.fields.specs.declared.Span.the-variants as span
+use Rattle.fields.specs.Bytes.{pick, listOf, nameOf}
+use Rattle.fields.proofs.Laws.{name-fits, list-fits, to-end}
+use Rattle.records.specs.Trace.{Trace, refuse, andThen, shift, Ending, well, refused, ends}
+use Rattle.records.specs.Grammar.{Reading, Reader, namedAt, listedAt, listed, recordOf, nodes, records}
+use Rattle.story.specs.declared.Reach.{Reach}
+use Rattle.story.specs.declared.Reach.the-variants as reach
+use Rattle.story.specs.declared.Heading.{Heading}
+use Rattle.story.specs.declared.HeadingRead.{HeadingRead}
+use Rattle.story.specs.declared.HeadingRead.the-variants as heading
+use Rattle.story.specs.Headings.{reachAt, namesReach, countedReach, listAt, marksAt, paramsAt, nameThen, headingOf}
+use Rattle.story.specs.Flows.{namesThen, counted, titled, part}
+use Rattle.story.specs.Endings.{reachOf, titledReachAt, titledReach}
+use Rattle.story.proofs.Endings.{thenEnds, ends-then, ends-shift}
+
+-- 1. Within the bytes
+
+-- from an offset within the bytes, names reach no further than the bytes, and not back
+pub names-fit : (s : List ℕ) (n at : ℕ) {e : ℕ} → at ≤ length s → namesReach s n at ≡ reach.To e → (at ≤ e) × (e ≤ length s)
+unfolding namesReach reachAt
+names-fit s zero at {e} h q = let same : at ≡ e = cc in omega arith
+names-fit s (suc n) at {e} h q = by-name (nameOf (drop at s)) refl (λ k. names-fit s n (at + (1 + k))) q
+  where
+    by-name : (r : NameRead) → r ≡ nameOf (drop at s) → ((k : ℕ) → at + (1 + k) ≤ length s → namesReach s n (at + (1 + k)) ≡ reach.To e → (at + (1 + k) ≤ e) × (e ≤ length s))
+        → reachAt r (namesReach s n) at ≡ reach.To e → (at ≤ e) × (e ≤ length s)
+    by-name (name.Bytes k) p more q =
+        let f = name-fits (drop at s) k p refl in
+        let g = more k (omega (arith, length-drop at s)) q in
+        omega arith
+    by-name (name.Refused r) p more q = let z : _≡_ {A = ℕ} 0 1 = cc in absurd (omega arith)
+
+-- a count byte and so many names take a byte at least
+pub counted-fits : (s : List ℕ) (at : ℕ) {e : ℕ} {r : Reach} → r ≡ countedReach s at → r ≡ reach.To e → (at < e) × (e ≤ length s)
+unfolding countedReach
+counted-fits s at {e} p q = by-test (ltb at (length s)) refl (sym p ∙ q)
+  where
+    by-test : (i : Bool) → ltb at (length s) ≡ i → pick i (namesReach s (getD s at 0) (at + 1)) (reach.Refused Short) ≡ reach.To e → (at < e) × (e ≤ length s)
+    by-test true t q = let h = ltb-true at (length s) t in omega (arith, names-fit s (getD s at 0) (at + 1) (omega arith) q)
+    by-test false t q = let z : _≡_ {A = ℕ} 0 1 = cc in absurd (omega arith)
+
+-- the parts of a title stand in this order, within the bytes
+pub record Laid (h : Heading) (s : List ℕ) : Type 0 where
+  pub name : 1 ≤ h .params
+  pub params : h .params < h .marks
+  pub marks : h .marks + 5 ≤ h .nodes
+  pub nodes : h .nodes ≤ h .end
+  pub within : h .end ≤ length s
+
+module _ (s : List ℕ) (h : Heading) where
+  list-laid : (params marks list : ℕ) (r : Span) → r ≡ listOf (drop list s) → list ≤ length s → 1 ≤ params → params < marks → marks < list → listAt params marks list r ≡ heading.At h → Laid h s
+  unfolding listAt
+  list-laid params marks list (span.Bytes n) p fits a b c q =
+      let same : record { params = params; marks = marks; nodes = list + 4; end = list + 4 + n } ≡ h = cc in
+      let f = list-fits (drop list s) n p refl in
+      rw (← same) (record { name = a; params = b; marks = omega arith; nodes = omega arith; within = omega (arith, length-drop list s) })
+  list-laid params marks list span.Cut p fits a b c q = let z : _≡_ {A = ℕ} 0 1 = cc in absurd (omega arith)
+
+  marks-laid : (params marks : ℕ) (r : Reach) → r ≡ countedReach s marks → 1 ≤ params → params < marks → marksAt params marks r s ≡ heading.At h → Laid h s
+  unfolding marksAt
+  marks-laid params marks (reach.To list) p a b q =
+      let f = counted-fits s marks p refl in list-laid params marks list (listOf (drop list s)) refl (f .1) a b (f .0) q
+  marks-laid params marks (reach.Refused x) p a b q = let z : _≡_ {A = ℕ} 0 1 = cc in absurd (omega arith)
+
+  params-laid : (params : ℕ) (r : Reach) → r ≡ countedReach s params → 1 ≤ params → paramsAt params r s ≡ heading.At h → Laid h s
+  unfolding paramsAt
+  params-laid params (reach.To marks) p a q = marks-laid params marks (countedReach s marks) refl a (counted-fits s params p refl .0) q
+  params-laid params (reach.Refused x) p a q = let z : _≡_ {A = ℕ} 0 1 = cc in absurd (omega arith)
+
+  name-laid : (r : NameRead) → nameThen r s ≡ heading.At h → Laid h s
+  unfolding nameThen
+  name-laid (name.Bytes k) q = params-laid (1 + k) (countedReach s (1 + k)) refl (omega arith) q
+  name-laid (name.Refused x) q = let z : _≡_ {A = ℕ} 0 1 = cc in absurd (omega arith)
+
+  pub heading-laid : {r : HeadingRead} → r ≡ headingOf s → r ≡ heading.At h → Laid h s
+  unfolding headingOf
+  heading-laid p q = name-laid (nameOf s) (sym p ∙ q)
+
+-- 2. As the grammar reads them
+
+-- where something ends that reaches so far and is followed by k
+unfoldable pub reachEnds : Reach → Reading → List ℕ → Ending
+reachEnds (reach.To e) k s = ends (k (drop e s))
+reachEnds (reach.Refused r) k s = refused r
+
+names-ends : (n : ℕ) (k : Reading) (s : List ℕ) (at : ℕ) → ends (namesThen n k (drop at s)) ≡ reachEnds (namesReach s n at) k s
+unfolding namesThen namesReach reachEnds reachAt namedAt ends
+names-ends zero k s at = refl
+names-ends (suc n) k s at = by-name (nameOf (drop at s)) (λ j. names-ends n k s (at + (1 + j)))
+  where
+    by-name : (r : NameRead) → ((j : ℕ) → ends (namesThen n k (drop (at + (1 + j)) s)) ≡ reachEnds (namesReach s n (at + (1 + j))) k s) → ends (namedAt r (namesThen n k) (drop at s)) ≡ reachEnds (reachAt r (namesReach s n) at) k s
+    by-name (name.Bytes j) more = rw (ends-shift (1 + j) (namesThen n k (drop (1 + j) (drop at s))), drop-drop (1 + j) at s) (more j)
+    by-name (name.Refused r) more = refl
+
+counted-ends : (k : Reading) (s : List ℕ) (at : ℕ) → ends (counted k (drop at s)) ≡ reachEnds (countedReach s at) k s
+unfolding countedReach counted reachEnds ends
+counted-ends k s at = by-test (ltb at (length s)) refl
+  where
+    one-on : at + 1 ≡ suc at
+    one-on = omega arith
+
+    by-test : (i : Bool) → ltb at (length s) ≡ i → ends (counted k (drop at s)) ≡ reachEnds (pick i (namesReach s (getD s at 0) (at + 1)) (reach.Refused Short)) k s
+    by-test true t =
+        rw (drop-cons s at 0 (ltb-true at (length s) t), ends-shift 1 (namesThen (getD s at 0) k (drop (suc at) s)), one-on) (names-ends (getD s at 0) k s (suc at))
+    by-test false t = rw (none (drop at s) (omega (arith, length-drop at s, ltb-false at (length s) t)))
+      where
+        none : (u : List ℕ) → length u ≤ 0 → u ≡ []
+        none [] h = refl
+        none (x ∷ u) h = absurd (omega arith)
+
+-- 3. One name further
+
+pub reach-on : (s : List ℕ) (many at k : ℕ) {r : NameRead} → 0 < many → r ≡ nameOf (take (length s - at) (drop at s)) → r ≡ name.Bytes k → namesReach s many at ≡ namesReach s (many - 1) (at + (1 + k))
+unfolding namesReach reachAt
+reach-on s zero at k h p q = absurd (omega arith)
+reach-on s (suc many) at k h p q = rw (sub-one (suc many), ← to-end at s, ← p, q)
+
+pub reach-refused : (s : List ℕ) (many at : ℕ) {x : Refusal} {r : NameRead} → 0 < many → r ≡ nameOf (take (length s - at) (drop at s)) → r ≡ name.Refused x → reach.Refused x ≡ namesReach s many at
+unfolding namesReach reachAt
+reach-refused s zero at h p q = absurd (omega arith)
+reach-refused s (suc many) at h p q = rw (← to-end at s, ← p, q)
+
+pub reach-end : (s : List ℕ) (many at : ℕ) → many ≤ 0 → reach.To at ≡ namesReach s many at
+unfolding namesReach
+reach-end s zero at h = refl
+reach-end s (suc many) at h = absurd (omega arith)
+
+-- 4. A flow's or a stitch's title
+
+abbrev body : Reader
+body = recordOf 64 Node
+
+list-ends : (k : Reading) (s : List ℕ) (params marks list : ℕ) (r : Span) → r ≡ listOf (drop list s)
+    → ends (listedAt r body k (drop list s)) ≡ reachEnds (titledReachAt (listAt params marks list r) s) k s
+unfolding listedAt listAt titledReachAt reachEnds reachOf thenEnds nodes part ends
+list-ends k s params marks list (span.Bytes n) p =
+    rw (ends-then (shift 4 (records body (take n (drop 4 (drop list s))))) (shift (4 + n) (k (drop (4 + n) (drop list s)))), ends-shift 4 (records body (take n (drop 4 (drop list s)))), ends-shift (4 + n) (k (drop (4 + n) (drop list s))), drop-drop 4 list s, drop-drop (4 + n) list s, ← add-assoc list 4 n, same-part)
+    (by-end (ends (nodes (part (list + 4) (list + 4 + n) s))))
+  where
+    same-part : records body (take n (drop (list + 4) s)) ≡ nodes (part (list + 4) (list + 4 + n) s)
+    same-part = rw (add-sub-cancel-left (list + 4) n)
+
+    by-end : (e : Ending) → thenEnds e (ends (k (drop (list + 4 + n) s))) ≡ reachEnds (reachOf e (list + 4 + n)) k s
+    by-end well = refl
+    by-end (refused x) = refl
+list-ends k s params marks list span.Cut p = refl
+
+marks-ends : (k : Reading) (s : List ℕ) (params marks : ℕ) (r : Reach) → reachEnds r (listed body k) s ≡ reachEnds (titledReachAt (marksAt params marks r s) s) k s
+unfolding marksAt reachEnds titledReachAt
+marks-ends k s params marks (reach.To list) = list-ends k s params marks list (listOf (drop list s)) refl
+marks-ends k s params marks (reach.Refused x) = refl
+
+params-ends : (k : Reading) (s : List ℕ) (params : ℕ) (r : Reach) → reachEnds r (counted (listed body k)) s ≡ reachEnds (titledReachAt (paramsAt params r s) s) k s
+unfolding paramsAt reachEnds titledReachAt
+params-ends k s params (reach.To marks) = counted-ends (listed body k) s marks ∙ marks-ends k s params marks (countedReach s marks)
+params-ends k s params (reach.Refused x) = refl
+
+name-ends : (k : Reading) (s : List ℕ) (r : NameRead) → ends (namedAt r (counted (counted (listed body k))) s) ≡ reachEnds (titledReachAt (nameThen r s) s) k s
+unfolding namedAt nameThen reachEnds titledReachAt ends
+name-ends k s (name.Bytes n) =
+    ends-shift (1 + n) (counted (counted (listed body k)) (drop (1 + n) s)) ∙ counted-ends (counted (listed body k)) s (1 + n) ∙ params-ends k s (1 + n) (countedReach s (1 + n))
+name-ends k s (name.Refused x) = refl
+
+-- a title ends as what reaches so far and is followed by k
+pub titled-ends : (k : Reading) (s : List ℕ) → ends (titled k s) ≡ reachEnds (titledReach s) k s
+unfolding titled titledReach headingOf
+titled-ends k s = name-ends k s (nameOf s)

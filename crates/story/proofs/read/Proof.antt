@@ -1,0 +1,22 @@
+-- `read`: the trailer, then the sections. Assumes nothing.
+use Rattle.story.proofs.Opening.{opened-in-order, read-closed, read-refused, read-well}
+use borrow.Author.Needs.{needs}
+use Rattle.story.proofs.read.Statement.{statement}
+use Rattle.story.proofs.read.Tie as tie
+
+read-sections-requires : tie.Need-read-sections-requires
+read-sections-requires c κs = opened-in-order (c .before .before .before .before .before .args .file .now) (c .before .opened2 .given .0 .0) (c .before .before .before .read-trailer .ensures) (c .before .opened2 .given .1)
+
+returns : tie.Need-returns
+returns c = read-closed (c .before .before .before .before .before .args .file .now) (c .before .before .before .read-trailer .ensures) (c .before .opened .given .1)
+
+returns-2 : tie.Need-returns-2
+returns-2 c =
+    read-refused (c .before .before .before .before .before .before .before .before .before .args .file .now) (c .before .before .before .before .before .opened2 .given .0 .0) (c .before .before .before .before .before .before .before .read-trailer .ensures) (c .before .before .before .before .before .opened2 .given .1) (c .before .before .before .read-sections .ensures) (c .before .ended .given .1)
+
+returns-3 : tie.Need-returns-3
+returns-3 c =
+    read-well (c .before .before .before .before .before .before .before .before .args .file .now) (c .before .before .before .before .opened2 .given .0 .0) (c .before .before .before .before .before .before .read-trailer .ensures) (c .before .before .before .before .opened2 .given .1) (c .before .before .read-sections .ensures) (c .enum-told .given .1)
+
+pub read-spec : {M : Type 1} → statement M
+read-spec = tie.close (tie.spec (λ c κs. search needs) (λ c. search needs) (λ c. search needs) read-sections-requires (λ c. search needs) (λ c. search needs) returns returns-2 returns-3)

@@ -1,0 +1,41 @@
+-- `read_trailer`: the tests that led to each `return` pick the case of `openedOf`. Assumes nothing.
+use borrow.Author.Tests.{lt-ltb, le-ltb, eq-eqb, ne-eqb}
+use Rattle.story.specs.File.{openedOf}
+use borrow.Author.Needs.{needs}
+use Rattle.story.proofs.trailer.read_trailer.Statement.{statement}
+use Rattle.story.proofs.trailer.read_trailer.Tie as tie
+
+returns : tie.Need-returns
+unfolding openedOf
+returns c = rw (lt-ltb _ _ (c .if1 .taken))
+
+returns-2 : tie.Need-returns-2
+unfolding openedOf
+returns-2 c = rw (le-ltb _ _ (c .before .if1 .left), lt-ltb _ _ (c .if2 .taken))
+
+returns-3 : tie.Need-returns-3
+unfolding openedOf
+returns-3 c = rw (le-ltb _ _ (c .before .before .before .if1 .left), le-ltb _ _ (c .before .before .if2 .left), ← c .before .is-marked .ensures, c .if3 .taken)
+
+returns-4 : tie.Need-returns-4
+unfolding openedOf
+returns-4 c = rw (le-ltb _ _ (c .before .before .before .before .before .before .before .before .if1 .left), le-ltb _ _ (c .before .before .before .before .before .before .before .if2 .left), ← c .before .before .before .before .before .before .is-marked .ensures, c .before .before .before .before .before .if3 .left, ← c .before .before .before .before .start-at .ensures, ne-eqb _ _ (c .if4 .taken))
+
+returns-5 : tie.Need-returns-5
+unfolding openedOf
+returns-5 c = rw (le-ltb _ _ (c .before .before .before .before .before .before .before .before .before .if1 .left), le-ltb _ _ (c .before .before .before .before .before .before .before .before .if2 .left), ← c .before .before .before .before .before .before .before .is-marked .ensures, c .before .before .before .before .before .before .if3 .left, ← c .before .before .before .before .before .start-at .ensures, eq-eqb _ _ (c .before .if4 .left), ← c .before .before .before .before .start-at2 .ensures, ← c .before .before .before .start-at3 .ensures, lt-ltb _ _ (c .if5 .taken))
+
+returns-6 : tie.Need-returns-6
+unfolding openedOf
+returns-6 c = rw (le-ltb _ _ (c .before .before .before .before .before .before .before .before .before .before .if1 .left), le-ltb _ _ (c .before .before .before .before .before .before .before .before .before .if2 .left), ← c .before .before .before .before .before .before .before .before .is-marked .ensures, c .before .before .before .before .before .before .before .if3 .left, ← c .before .before .before .before .before .before .start-at .ensures, eq-eqb _ _ (c .before .before .if4 .left), ← c .before .before .before .before .before .start-at2 .ensures, ← c .before .before .before .before .start-at3 .ensures, le-ltb _ _ (c .before .if5 .left), ← c .before .before .before .start-at4 .ensures, lt-ltb _ _ (c .if6 .taken))
+
+returns-7 : tie.Need-returns-7
+unfolding openedOf
+returns-7 c = rw (le-ltb _ _ (c .before .before .before .before .before .before .before .before .before .before .before .if1 .left), le-ltb _ _ (c .before .before .before .before .before .before .before .before .before .before .if2 .left), ← c .before .before .before .before .before .before .before .before .before .is-marked .ensures, c .before .before .before .before .before .before .before .before .if3 .left, ← c .before .before .before .before .before .before .before .start-at .ensures, eq-eqb _ _ (c .before .before .before .if4 .left), ← c .before .before .before .before .before .before .start-at2 .ensures, ← c .before .before .before .before .before .start-at3 .ensures, le-ltb _ _ (c .before .before .if5 .left), ← c .before .before .before .before .start-at4 .ensures, le-ltb _ _ (c .before .if6 .left), lt-ltb _ _ (c .if7 .taken))
+
+returns-8 : tie.Need-returns-8
+unfolding openedOf
+returns-8 c = rw (le-ltb _ _ (c .before .before .before .before .before .before .before .before .before .before .before .if1 .left), le-ltb _ _ (c .before .before .before .before .before .before .before .before .before .before .if2 .left), ← c .before .before .before .before .before .before .before .before .before .is-marked .ensures, c .before .before .before .before .before .before .before .before .if3 .left, ← c .before .before .before .before .before .before .before .start-at .ensures, eq-eqb _ _ (c .before .before .before .if4 .left), ← c .before .before .before .before .before .before .start-at2 .ensures, ← c .before .before .before .before .before .start-at3 .ensures, le-ltb _ _ (c .before .before .if5 .left), ← c .before .before .before .before .start-at4 .ensures, le-ltb _ _ (c .before .if6 .left), le-ltb _ _ (c .if7 .left))
+
+pub read-trailer-spec : {M : Type 1} → statement M
+read-trailer-spec = tie.close (tie.spec returns returns-2 (λ c κs. search needs) returns-3 (λ c κs. search needs) (λ c κs. search needs) (λ c κs. search needs) (λ c κs. search needs) returns-4 returns-5 returns-6 returns-7 returns-8)

@@ -1,0 +1,49 @@
+-- Where the parts of a flow or a stitch begin: its name, its parameters, its divert parameters, its nodes.
+use Prim.Native.Nat.{ℕ, zero, suc, _+_}
+use mathlib.Core.List.{List}
+use lib.ListN.{length, getD, drop}
+use lib.Dec.{ltb}
+use Rattle.fields.specs.declared.Refusal.{Refusal}
+use Rattle.fields.specs.declared.Refusal.the-variants.{Short}
+use Rattle.fields.specs.declared.NameRead.{NameRead}
+use Rattle.fields.specs.declared.NameRead.the-variants as name
+use Rattle.fields.specs.declared.Span.{Span}
+use Rattle.fields.specs.declared.Span.the-variants as span
+use Rattle.fields.specs.Bytes.{pick, listOf, nameOf}
+use Rattle.story.specs.declared.Reach.{Reach}
+use Rattle.story.specs.declared.Reach.the-variants as reach
+use Rattle.story.specs.declared.Heading.{Heading}
+use Rattle.story.specs.declared.HeadingRead.{HeadingRead}
+use Rattle.story.specs.declared.HeadingRead.the-variants as heading
+
+-- how far so many names reach from the offset on
+unfoldable pub reachAt : NameRead → (ℕ → Reach) → ℕ → Reach
+reachAt (name.Bytes k) f at = f (at + (1 + k))
+reachAt (name.Refused r) f at = reach.Refused r
+
+unfoldable pub namesReach : List ℕ → ℕ → ℕ → Reach
+namesReach s zero at = reach.To at
+namesReach s (suc n) at = reachAt (nameOf (drop at s)) (namesReach s n) at
+
+-- a count byte, then so many names
+unfoldable pub countedReach : List ℕ → ℕ → Reach
+countedReach s at = pick (ltb at (length s)) (namesReach s (getD s at 0) (at + 1)) (reach.Refused Short)
+
+unfoldable pub listAt : ℕ → ℕ → ℕ → Span → HeadingRead
+listAt params marks list (span.Bytes n) = heading.At (record { params = params; marks = marks; nodes = list + 4; end = list + 4 + n })
+listAt params marks list span.Cut = heading.Refused Short
+
+unfoldable pub marksAt : ℕ → ℕ → Reach → List ℕ → HeadingRead
+marksAt params marks (reach.To list) s = listAt params marks list (listOf (drop list s))
+marksAt params marks (reach.Refused r) s = heading.Refused r
+
+unfoldable pub paramsAt : ℕ → Reach → List ℕ → HeadingRead
+paramsAt params (reach.To marks) s = marksAt params marks (countedReach s marks) s
+paramsAt params (reach.Refused r) s = heading.Refused r
+
+unfoldable pub nameThen : NameRead → List ℕ → HeadingRead
+nameThen (name.Bytes k) s = paramsAt (1 + k) (countedReach s (1 + k)) s
+nameThen (name.Refused r) s = heading.Refused r
+
+unfoldable pub headingOf : List ℕ → HeadingRead
+headingOf s = nameThen (nameOf s) s

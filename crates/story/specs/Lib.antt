@@ -1,0 +1,6 @@
+pub mod Story
+pub mod Items
+pub mod Headings
+pub mod Flows
+pub mod Endings
+pub mod File
