@@ -1,0 +1,76 @@
+-- Flows by their names. Assumes nothing.
+use mathlib.Core.Path.{_≡_, refl, ap, _∙_}
+use mathlib.Core.List.{List, [], _∷_}
+use mathlib.Core.Bool.{Bool, true, false, _&&_, and-false}
+use Prim.Native.Nat.{ℕ, _+_, _-_}
+use lib.Dec.{eqb}
+use native.Mathlib.Omega.{arith}
+use borrow.Author.Tests.{eq-eqb, ne-eqb}
+use lib.ListN.{length, getD, take, drop, List·getD-eq-default}
+use lib.Seq.{drop-drop}
+use Rattle.fields.specs.declared.Span.{Span}
+use Rattle.fields.specs.declared.Span.the-variants as span
+use Rattle.fields.specs.Bytes.{listOf}
+use Rattle.fields.proofs.Laws.{to-end, part}
+use Rattle.names.specs.Words.{Bytes, same, any}
+use Rattle.names.specs.Counted.{nameAt}
+use Rattle.story.specs.Story.{Name, Flow}
+use Rattle.story.specs.declared.HeadingRead.{HeadingRead}
+use Rattle.story.specs.declared.HeadingRead.the-variants as heading
+use Rattle.story.specs.Headings.{headingOf}
+use Rattle.story.specs.Items.{nameIn}
+use Rattle.story.specs.Flows.{titledAt, titledIn, flowIn, flowsIn}
+use Rattle.searches.specs.Called.{isFlow, isFunction, calledAs}
+use Rattle.searches.proofs.Pieces.{piece-on, piece-cut, any-pieces}
+
+-- a flow's name, whether its heading can be read or not
+titled-name : (r : HeadingRead) (a : ℕ) (s : List ℕ) → titledAt r a s .name .bytes ≡ nameIn s
+unfolding titledAt
+titled-name (heading.At h) a s = refl
+titled-name (heading.Refused r) a s = refl
+
+pub flow-name : (a : ℕ) (s : List ℕ) → flowIn a s .name .bytes ≡ nameAt s 1
+unfolding flowIn titledIn nameIn nameAt
+flow-name a s = titled-name (headingOf (drop 1 s)) (a + 5) (drop 1 s) ∙ rw (drop-drop 1 1 s)
+
+pub flow-flag : (a : ℕ) (s : List ℕ) → flowIn a s .function ≡ eqb (getD s 0 0) 1
+unfolding flowIn
+flow-flag a s = refl
+
+-- the test does not depend on the place
+called-free : (b : Bool) (n : Bytes) (p q : ℕ) (s : List ℕ) → calledAs b n (flowIn p s) ≡ calledAs b n (flowIn q s)
+called-free true n p q s = rw (flow-name p s, flow-name q s, flow-flag p s, flow-flag q s)
+called-free false n p q s = rw (flow-name p s, flow-name q s)
+
+pub any-flows : (b : Bool) (n : Bytes) (p q : ℕ) (s : List ℕ) → any (calledAs b n) (flowsIn p s) ≡ any (calledAs b n) (flowsIn q s)
+unfolding flowsIn
+any-flows b n p q s = any-pieces (calledAs b n) flowIn (called-free b n) p q s
+
+-- the answers of the test on one flow
+module _ (n : Bytes) (s : List ℕ) {function : Bool} where
+  pub called-flow : {r : Bool} → function ≡ false → r ≡ same n (nameAt s 1) → r ≡ calledAs function n (flowIn 0 s)
+  called-flow f e = rw (f, flow-name 0 s) e
+
+  pub called-function : {r : Bool} → function ≡ true → getD s 0 0 ≡ 1 → r ≡ same n (nameAt s 1) → r ≡ calledAs function n (flowIn 0 s)
+  called-function f g e = rw (f, flow-name 0 s, flow-flag 0 s, eq-eqb (getD s 0 0) 1 g) e
+
+  pub called-other : function ≡ true → (getD s 0 0 ≡ 1 → ⊥) → false ≡ calledAs function n (flowIn 0 s)
+  called-other f g = rw (f, flow-flag 0 s, ne-eqb (getD s 0 0) 1 g)
+
+  pub called-empty : function ≡ true → length s ≡ 0 → false ≡ calledAs function n (flowIn 0 s)
+  called-empty f g = called-other f (λ e. omega (arith, e, List·getD-eq-default s 0 {n = 0} (omega arith)))
+
+-- the answers of the search
+module _ (b : Bool) (n : Bytes) (s : List ℕ) where
+  pub flows-none : {l : Span} → l ≡ listOf s → l ≡ span.Cut → false ≡ any (calledAs b n) (flowsIn 0 s)
+  unfolding flowsIn
+  flows-none e q = rw (piece-cut flowIn 0 s e q)
+
+  module _ (k : ℕ) {l : Span} (e : l ≡ listOf s) (q : l ≡ span.Bytes k) {r : Bool} (t : r ≡ calledAs b n (flowIn 0 (take (4 + k - 4) (drop 4 s)))) where
+    pub flow-found : r ≡ true → true ≡ any (calledAs b n) (flowsIn 0 s)
+    unfolding flowsIn
+    flow-found g = rw (piece-on flowIn 0 s k e q, ← part 4 k s, ← t, g)
+
+    pub flow-passed : r ≡ false → any (calledAs b n) (flowsIn 0 s) ≡ any (calledAs b n) (flowsIn 0 (take (length s - (4 + k)) (drop (4 + k) s)))
+    unfolding flowsIn
+    flow-passed g = rw (piece-on flowIn 0 s k e q, ← part 4 k s, ← t, g, to-end (4 + k) s) (any-flows b n (0 + (4 + k)) 0 (drop (4 + k) s))
