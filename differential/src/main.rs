@@ -1,0 +1,54 @@
+//! The commands: `run N SEED` compares N stories, `list` prints the stored list.
+
+use differential::cases::case;
+use differential::compare::compare;
+use differential::subject::{Program, Subject};
+use differential::tally::Tally;
+use std::process::ExitCode;
+
+/// Runs the command named first.
+fn main() -> ExitCode {
+    let arguments: Vec<String> = std::env::args().skip(1).collect();
+    match arguments.iter().map(String::as_str).collect::<Vec<_>>()[..] {
+        ["run", count, seed] => match (count.parse(), seed.parse()) {
+            (Ok(count), Ok(seed)) => run(count, seed),
+            _ => usage(),
+        },
+        _ => usage(),
+    }
+}
+
+/// Says how to call the program.
+fn usage() -> ExitCode {
+    eprintln!("usage: differential run N SEED | differential list");
+    ExitCode::from(2)
+}
+
+/// Compares so many stories of a seed.
+fn run(count: u64, seed: u64) -> ExitCode {
+    let mut program = match Program::find() {
+        Ok(program) => program,
+        Err(error) => {
+            eprintln!("{error}");
+            return ExitCode::from(2);
+        }
+    };
+    match &program {
+        Some(program) => println!("subject: {}", program.title()),
+        None => println!(
+            "subject: none (no INK_CHECK, no program built); the original is compared with the second implementation only"
+        ),
+    }
+    let mut tally = Tally::default();
+    for number in 0..count {
+        let case = case(seed, number);
+        let subject = program.as_mut().map(|program| program as &mut dyn Subject);
+        let outcome = compare(&case, subject);
+        tally.count(number, &case.file, &outcome);
+    }
+    println!("{}", tally.report());
+    match tally.good() {
+        true => ExitCode::SUCCESS,
+        false => ExitCode::FAILURE,
+    }
+}
