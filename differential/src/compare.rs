@@ -71,6 +71,7 @@ impl Outcome {
             return self.differ("a readable file", "no refusal", got);
         };
         self.check_bounds(case, &report);
+        self.check_places(case);
         if decoded.names_are_utf8 {
             self.judged = true;
             self.compare_verdict(case, &decoded.story, &report);
@@ -87,6 +88,15 @@ impl Outcome {
         }
         if report.message.len() > MESSAGE {
             self.differ("message length", MESSAGE, report.message.len());
+        }
+    }
+
+    /// Every breach stands at a record that its rule speaks of and names a name of that record.
+    fn check_places(&mut self, case: &Case) {
+        for breach in second::all_breaches(&case.file, case.index).unwrap_or_default() {
+            if !fits_place(&case.file, &breach) {
+                self.differ("place", "a record that fits the rule", breach);
+            }
         }
     }
 
@@ -224,6 +234,27 @@ impl Outcome {
         if !holds(index, &numbers, OLD_NUMBER) {
             self.differ("index after lookup", numbers, index);
         }
+    }
+}
+
+/// Whether the byte at a breach's place, and its name's distance from there, fit the rule.
+fn fits_place(file: &[u8], breach: &Breach) -> bool {
+    let kind = file[breach.place as usize];
+    let distance = breach.names[0].wrapping_sub(breach.place);
+    let second_none = breach.names[1] == second::NONE;
+    match (breach.rule, breach.step) {
+        (1 | 2 | 8, _) => (3..=5).contains(&kind) && distance == 5 && second_none,
+        (3, _) => [1, 5, 16].contains(&kind) && distance == 5 && second_none,
+        (4, 6) | (5, _) => distance == 0 && second_none,
+        (4 | 6 | 7, _) => kind == 13 && distance == 6 && second_none,
+        (9, _) => kind == 2 && distance == 5 && second_none,
+        (10, _) => kind == 15 && distance == 5 && second_none,
+        (11, _) => kind == 14 && breach.names == [second::NONE; 2],
+        (12, _) => distance == 5 && second_none,
+        (13, _) => kind == 14 && breach.names[0] < breach.place && second_none,
+        (14, _) => kind == 3 && breach.names[1] == breach.place + 5,
+        (15, _) => kind == 1 && distance == 5 && second_none,
+        _ => false,
     }
 }
 

@@ -28,3 +28,4 @@ pub mod story;
 pub mod subject;
 pub mod tally;
 pub mod validator;
+pub mod vectors;

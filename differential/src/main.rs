@@ -4,6 +4,7 @@ use differential::cases::case;
 use differential::compare::compare;
 use differential::subject::{Program, Subject};
 use differential::tally::Tally;
+use differential::vectors;
 use std::process::ExitCode;
 
 /// Runs the command named first.
@@ -14,6 +15,10 @@ fn main() -> ExitCode {
             (Ok(count), Ok(seed)) => run(count, seed),
             _ => usage(),
         },
+        ["list"] => {
+            print!("{}", vectors::text());
+            ExitCode::SUCCESS
+        }
         _ => usage(),
     }
 }
