@@ -1,11 +1,11 @@
 //! Stories aimed at one rule in one step: a sound story with one fault put into the right body.
 
 use crate::ast::{Condition, Expression, Flow, Node, ParsedStory};
-use crate::generate::sound;
+use crate::generate::{BUILTINS, sound};
 use crate::random::Random;
 use crate::story::{
-    binary, call, choice, conditional, conditional_choice, constant, divert, gather, jump, knot,
-    negate, output, sequence, switch, target, temp, variable, void_call,
+    binary, call, choice, conditional, conditional_choice, constant, divert, gather, global, jump,
+    knot, negate, nodes_mut, output, sequence, switch, target, temp, variable, void_call,
 };
 
 /// Every rule with every step in which it can stand.
@@ -44,6 +44,74 @@ pub const PAIRS: [(u8, u8); 33] = [
     (10, 19),
     (10, 20),
 ];
+
+/// A story that misses this rule in this step by one name; some still break it elsewhere.
+pub fn cured(random: &mut Random, rule: u8, step: u8) -> ParsedStory {
+    let mut story = aimed(random, rule, step);
+    let knot = chosen(random, &story.flows, false);
+    match rule {
+        2 => story
+            .globals
+            .extend(["nowhere", "a..s", "b.k."].map(global)),
+        3 => cure_call(random, &mut story, knot),
+        8 => flows_mut(&mut story, |flow| {
+            let parameters = flow.parameters.clone();
+            flow.divert_parameters.extend(parameters);
+        }),
+        9 => flows_mut(&mut story, |flow| flow.divert_parameters.clear()),
+        10 => gathers_to_choices(&mut story),
+        15 => cure_variable(random, &mut story.flows[knot]),
+        _ => {}
+    }
+    story
+}
+
+/// Gives the knot's name to an external, or calls a built-in word that is a knot's name too.
+fn cure_call(random: &mut Random, story: &mut ParsedStory, number: usize) {
+    if random.once_in(3) {
+        let name = story.flows[number].name.clone();
+        return story.external_functions.push(name);
+    }
+    let word = random.word(&BUILTINS);
+    let called = called(random, word);
+    *story = sound(random);
+    insert(random, &mut story.root, called);
+    story.flows.push(knot(word, vec![]));
+}
+
+/// Declares the names of the faults below in every stitch of a knot.
+fn cure_variable(random: &mut Random, flow: &mut Flow) {
+    for name in OWN_NAMES {
+        for stitch in &mut flow.children {
+            match random.once_in(2) {
+                true => stitch.parameters.push(name.to_string()),
+                false => insert(random, &mut stitch.nodes, temp(name)),
+            }
+        }
+    }
+}
+
+/// Turns every gather of a story into a choice with the same label.
+fn gathers_to_choices(story: &mut ParsedStory) {
+    let turn = |node: &mut Node| {
+        if let Node::GatherLabel { label, .. } = node {
+            *node = choice(Some(&label.clone()), vec![divert("END")]);
+        }
+    };
+    nodes_mut(&mut story.root, &mut { turn });
+    flows_mut(story, |flow| nodes_mut(&mut flow.nodes, &mut { turn }));
+}
+
+/// Visits every flow and stitch.
+fn flows_mut(story: &mut ParsedStory, visit: impl Fn(&mut Flow)) {
+    for flow in &mut story.flows {
+        visit(flow);
+        flow.children.iter_mut().for_each(&visit);
+    }
+}
+
+/// The names of faults that lean on a name of the same flow.
+const OWN_NAMES: [&str; 4] = ["own", "o.n", "END", "ö"];
 
 /// A story whose first breach is most likely this rule in this step.
 pub fn aimed(random: &mut Random, rule: u8, step: u8) -> ParsedStory {
@@ -127,7 +195,7 @@ fn purity_fault(random: &mut Random, story: &ParsedStory, rule: u8, knot: usize)
 
 /// Rules 6, 7, 8, 9 and 15: faults that lean on a name of the same flow.
 fn own_fault(random: &mut Random, story: &mut ParsedStory, rule: u8, step: u8, knot: usize) {
-    let name = random.word(&["own", "o.n", "END", "ö"]);
+    let name = random.word(&OWN_NAMES);
     let kind = 3 + random.below(3) as u8;
     let node = match rule {
         6 | 7 => temp(name),

@@ -1,6 +1,6 @@
 //! The cases of a run: story number and seed decide file, lent lengths and lookup targets.
 
-use crate::aimed::{PAIRS, aimed};
+use crate::aimed::{PAIRS, aimed, cured};
 use crate::ast::ParsedStory;
 use crate::damage::damaged;
 use crate::encode::encode;
@@ -36,7 +36,11 @@ pub fn case(seed: u64, number: u64) -> Case {
             let pair = (round * 6 + turn) as usize % PAIRS.len();
             intact(aimed(random, PAIRS[pair].0, PAIRS[pair].1))
         }
-        6..=9 => intact(wild(random)),
+        6 => {
+            let pair = round as usize % PAIRS.len();
+            intact(cured(random, PAIRS[pair].0, PAIRS[pair].1))
+        }
+        7..=9 => intact(wild(random)),
         10 | 11 => intact(sound(random)),
         12 | 13 => intact(renamed(random)),
         14..=18 => (damaged_file(random), None),
@@ -61,12 +65,13 @@ fn intact(story: ParsedStory) -> (Vec<u8>, Option<ParsedStory>) {
 
 /// A damaged copy of any story's file.
 fn damaged_file(random: &mut Random) -> Vec<u8> {
-    let story = match random.below(3) {
-        0 => wild(random),
-        1 => sound(random),
-        _ => renamed(random),
+    let file = match random.below(8) {
+        0 => limits::deepest_file(random),
+        1..=3 => intact(wild(random)).0,
+        4 | 5 => intact(sound(random)).0,
+        _ => intact(renamed(random)).0,
     };
-    damaged(random, &intact(story).0)
+    damaged(random, &file)
 }
 
 /// A file at or past a limit.

@@ -7,14 +7,45 @@ use crate::random::Random;
 /// A copy of a readable file with up to three faults; some copies stay readable.
 pub fn damaged(random: &mut Random, file: &[u8]) -> Vec<u8> {
     let fields = decode(file).map_or(Vec::new(), |decoded| decoded.fields);
-    match random.below(4) {
+    match random.below(6) {
         0 => moved(random, file.to_vec()),
         1 => {
             let copy = moved(random, file.to_vec());
             with_wrong_fields(random, copy, &[])
         }
+        2 | 3 => with_container_off(random, file, &fields),
         _ => with_wrong_fields(random, file.to_vec(), &fields),
     }
+}
+
+/// One byte more or less at the end of a container, with all lengths and starts around it set right.
+fn with_container_off(random: &mut Random, file: &[u8], fields: &Fields) -> Vec<u8> {
+    let mut copy = file.to_vec();
+    let Some((chosen, _)) = pick(random, fields, |field| field == Field::Length) else {
+        return copy;
+    };
+    let end_of = |place: usize| place + 4 + number_at(file, place) as usize;
+    let end = end_of(chosen);
+    let shorter = end > chosen + 4 && random.once_in(2);
+    let lengths = fields.iter().filter(|(_, field)| *field == Field::Length);
+    let around = lengths.filter(|(place, _)| *place <= chosen && end_of(*place) >= end);
+    for (place, _) in around {
+        let length = number_at(file, *place);
+        let new = if shorter { length - 1 } else { length + 1 };
+        copy[*place..*place + 4].copy_from_slice(&new.to_le_bytes());
+    }
+    let starts = starts(file).expect("a file with fields is readable");
+    let moved = starts.map(|start| match start >= end {
+        true if shorter => start - 1,
+        true => start + 1,
+        false => start,
+    });
+    match shorter {
+        true => drop(copy.remove(end - 1)),
+        false => copy.insert(end, random.below(3) as u8),
+    }
+    set_trailer(&mut copy, moved);
+    copy
 }
 
 /// A copy in which bytes are missing, added or counted to another section.

@@ -9,10 +9,10 @@ use crate::story::{self, global, jump, knot, nodes_mut};
 use crate::validator::oracle;
 
 /// Names of all sorts, few enough to clash often.
-pub const WILD: [&str; 40] = [
+pub const WILD: [&str; 42] = [
     "a", "b", "k", "s", "f", "g", "x", "t", "p", "a", "k", "s", "f", "t", "k.s", "k.a", "s.a",
-    "k.s.a", "a.b", ".s", ".a", "k.", ".", "..", "", "->", "$x", "$", "END", "DONE", "->->",
-    "RANDOM", "LIST_MIN", "TURNS", "é", "日本", "k.é", "->k", "END.a", "e\u{301}",
+    "k.s.a", "a.b", ".s", ".a", "k.", ".", "..", "", "", "", "->", "$x", "$", "END", "DONE",
+    "->->", "RANDOM", "LIST_MIN", "TURNS", "é", "日本", "k.é", "->k", "END.a", "e\u{301}",
 ];
 
 const GLOBALS: [&str; 4] = ["gold", "g", "g.h", "größe"];
@@ -27,6 +27,31 @@ const PARAMETERS: [&str; 4] = ["p", "q", "r", "w"];
 const CALLS: [&str; 7] = ["f", "sum", "ext", "out", "RANDOM", "LIST_RANGE", "nobody"];
 const VARIABLES: [&str; 4] = ["gold", "g", "free", "t"];
 const ARGUMENTS: [&str; 3] = ["k", "hall", "END"];
+
+/// The words that may be called in every story.
+pub const BUILTINS: [&str; 21] = [
+    "RANDOM",
+    "SEED_RANDOM",
+    "POW",
+    "FLOOR",
+    "CEILING",
+    "INT",
+    "FLOAT",
+    "MIN",
+    "MAX",
+    "READ_COUNT",
+    "TURNS_SINCE",
+    "CHOICE_COUNT",
+    "TURNS",
+    "LIST_VALUE",
+    "LIST_ALL",
+    "LIST_INVERT",
+    "LIST_COUNT",
+    "LIST_MIN",
+    "LIST_MAX",
+    "LIST_RANGE",
+    "LIST_RANDOM",
+];
 
 /// Where the names of a body come from.
 #[derive(Clone, Copy)]

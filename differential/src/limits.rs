@@ -34,48 +34,43 @@ pub fn long_file(random: &mut Random) -> Vec<u8> {
 /// The ways to nest records.
 pub const NESTINGS: usize = 9;
 
-/// Root records, the innermost of which has exactly this depth.
+/// Root records, the innermost of which is empty and has exactly this depth.
 pub fn nested(way: usize, depth: usize) -> Vec<u8> {
-    let inner = depth - 1;
+    nested_around(way, depth, &record(0, &[]))
+}
+
+/// Root records around the bytes of an innermost record of this depth.
+fn nested_around(way: usize, depth: usize, innermost: &[u8]) -> Vec<u8> {
+    let around = |wrap: fn(usize, &[u8]) -> Vec<u8>| wrapped(depth, innermost, wrap);
     match way {
-        0 => wrapped(depth, |level, inside| {
-            record(if level == 1 { 2 } else { 3 }, inside)
-        }),
-        1 => wrapped(depth, |_, inside| record(10, &sized(inside))),
-        2 => wrapped(depth, |_, inside| record(14, &choice_payload(&[], inside))),
-        3 => wrapped(depth, |_, inside| record(8, &branch_payload(inside))),
-        4 => wrapped(depth, |_, inside| record(9, &switch_payload(inside))),
-        5 => wrapped(depth, |level, inside| match level {
+        0 => around(|level, inside| record(if level == 1 { 2 } else { 3 }, inside)),
+        1 => around(|_, inside| record(10, &sized(inside))),
+        2 => around(|_, inside| record(14, &choice_payload(&[], inside))),
+        3 => around(|_, inside| record(8, &branch_payload(inside))),
+        4 => around(|_, inside| record(9, &switch_payload(inside))),
+        5 => around(|level, inside| match level {
             1 => record(3, &[&layout::name(b"END"), inside].concat()),
             _ => record(5, &[&layout::name(b"f"), inside].concat()),
         }),
-        6 => wrapped(depth, |level, inside| match level {
+        6 => around(|level, inside| match level {
             1 => record(12, inside),
             _ => record(6, &[&record(0, &[]), inside].concat()),
         }),
-        7 => record(14, &choice_payload(&condition_of_depth(inner), &[])),
-        _ => record(8, &conditional_payload(&condition_of_depth(inner), &[])),
-    }
-}
-
-/// An empty record inside so many others.
-fn wrapped(depth: usize, wrap: impl Fn(usize, &[u8]) -> Vec<u8>) -> Vec<u8> {
-    let mut bytes = record(0, &[]);
-    for level in (1..depth).rev() {
-        bytes = wrap(level, &bytes);
-    }
-    bytes
-}
-
-/// A condition that holds so many levels, itself included.
-fn condition_of_depth(depth: usize) -> Vec<u8> {
-    match depth {
-        0 => Vec::new(),
-        1 => record(0, &[]),
-        _ => wrapped(depth, |level, inside| {
-            record(if level == 1 { 2 } else { 4 }, inside)
+        7 => around(|level, inside| match level {
+            1 => record(14, &choice_payload(inside, &[])),
+            _ => record(if level == 2 { 2 } else { 4 }, inside),
+        }),
+        _ => around(|level, inside| match level {
+            1 => record(8, &conditional_payload(inside, &[])),
+            _ => record(if level == 2 { 2 } else { 4 }, inside),
         }),
     }
+}
+
+/// Bytes inside so many records that what they hold has a depth.
+fn wrapped(depth: usize, innermost: &[u8], wrap: fn(usize, &[u8]) -> Vec<u8>) -> Vec<u8> {
+    let levels = (1..depth).rev();
+    levels.fold(innermost.to_vec(), |inside, level| wrap(level, &inside))
 }
 
 /// A choice's payload without label.
@@ -101,7 +96,22 @@ fn switch_payload(inside: &[u8]) -> Vec<u8> {
 /// A file with records near the greatest depth in the root, a flow or a stitch.
 pub fn deep_file(random: &mut Random) -> Vec<u8> {
     let depth = *random.pick(&[62, 63, 64, 64, 65, 65, 66]);
-    let records = nested(random.below(NESTINGS), depth);
+    let way = random.below(NESTINGS);
+    let body = random.below(3);
+    let flaw = match random.below(9) {
+        0 => record(17, &[]),
+        1 => record(7, &[0]),
+        2 => record(0, &[0]),
+        3 => vec![0, 0],
+        4 => [&[9], layout::number(1).as_slice()].concat(),
+        _ => record(0, &[]),
+    };
+    placed(body, &nested_around(way, depth, &flaw))
+}
+
+/// A readable file with records of the greatest depth.
+pub fn deepest_file(random: &mut Random) -> Vec<u8> {
+    let records = nested(random.below(NESTINGS), 64);
     placed(random.below(3), &records)
 }
 

@@ -3,6 +3,7 @@
 use super::Expected::{Accepted, Breach, Refused};
 use super::{Expected, Shelf, Vector};
 use crate::ast::{Flow, Node, ParsedStory};
+use crate::generate::BUILTINS;
 use crate::layout::{file, name, record};
 use crate::limits::long_name;
 use crate::story::{
@@ -142,32 +143,7 @@ pub fn calls() -> Vec<Vector> {
     shelf.vectors
 }
 
-/// The words of the original's is_builtin_function.
-const BUILTINS: [&str; 21] = [
-    "RANDOM",
-    "SEED_RANDOM",
-    "POW",
-    "FLOOR",
-    "CEILING",
-    "INT",
-    "FLOAT",
-    "MIN",
-    "MAX",
-    "READ_COUNT",
-    "TURNS_SINCE",
-    "CHOICE_COUNT",
-    "TURNS",
-    "LIST_VALUE",
-    "LIST_ALL",
-    "LIST_INVERT",
-    "LIST_COUNT",
-    "LIST_MIN",
-    "LIST_MAX",
-    "LIST_RANGE",
-    "LIST_RANDOM",
-];
-
-/// Words that lie near them.
+/// Words that lie near the built-in ones.
 const NO_BUILTINS: [&str; 9] = [
     "random",
     "RANDO",
