@@ -1,10 +1,12 @@
-//! The commands: `run N SEED` compares N stories, `list` prints the stored list.
+//! The commands: `run` compares stories, `list` prints the stored list, `check` answers as `ink_check`.
 
 use differential::cases::case;
 use differential::compare::compare;
+use differential::second;
 use differential::subject::{Program, Subject};
 use differential::tally::Tally;
 use differential::vectors;
+use std::io::{Read, Write};
 use std::process::ExitCode;
 
 /// Runs the command named first.
@@ -15,6 +17,7 @@ fn main() -> ExitCode {
             (Ok(count), Ok(seed)) => run(count, seed),
             _ => usage(),
         },
+        ["check"] => check(),
         ["list"] => {
             print!("{}", vectors::text());
             ExitCode::SUCCESS
@@ -25,8 +28,22 @@ fn main() -> ExitCode {
 
 /// Says how to call the program.
 fn usage() -> ExitCode {
-    eprintln!("usage: differential run N SEED | differential list");
+    eprintln!("usage: differential run N SEED | differential list | differential check <FILE");
     ExitCode::from(2)
+}
+
+/// Prints the second implementation's line for standard input.
+fn check() -> ExitCode {
+    let mut input = Vec::new();
+    if let Err(error) = std::io::stdin().take(4097).read_to_end(&mut input) {
+        eprintln!("{error}");
+        return ExitCode::FAILURE;
+    }
+    let line = [&second::program_line(&input), &b"\n"[..]].concat();
+    match std::io::stdout().write_all(&line) {
+        Ok(()) => ExitCode::SUCCESS,
+        Err(_) => ExitCode::FAILURE,
+    }
 }
 
 /// Compares so many stories of a seed.

@@ -67,6 +67,11 @@ pub struct Program {
 }
 
 impl Program {
+    /// The program at a path.
+    pub fn at(path: impl Into<PathBuf>) -> Program {
+        Program { path: path.into() }
+    }
+
     /// The program named by `INK_CHECK`, or the one that the repository builds, where it is there.
     pub fn find() -> Result<Option<Program>> {
         if let Some(given) = std::env::var_os("INK_CHECK") {

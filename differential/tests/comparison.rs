@@ -3,7 +3,7 @@
 use differential::cases::{Case, case};
 use differential::compare::{compare, returned_by};
 use differential::second::{self, Answer, Lookup};
-use differential::subject::{FoundTarget, Observed, Returned, Subject};
+use differential::subject::{FoundTarget, Observed, Program, Returned, Subject};
 use differential::tally::Tally;
 use std::io::Result;
 
@@ -198,4 +198,17 @@ fn a_difference_is_counted_and_shown() {
     assert!(report.contains("verdict: expected this, got that"));
     assert!(report.ends_with("0 passed, 1 failed"));
     assert!(!tally.good());
+}
+
+#[test]
+fn a_program_is_given_the_file_and_its_output_is_seen() {
+    let mut echo = Program::at("cat");
+    let seen = echo.check(b"any bytes \x00\xff", &mut [], &mut []).unwrap();
+    assert_eq!(seen, Observed::Line(b"any bytes \x00\xff".to_vec()));
+}
+
+#[test]
+fn a_program_that_fails_is_caught() {
+    let mut failing = Program::at("false");
+    assert!(failing.check(b"", &mut [], &mut []).is_err());
 }

@@ -8,10 +8,10 @@ use differential::generate::wild;
 use differential::random::Random;
 use differential::story::*;
 
-/// A story with every node, expression and condition kind, in the form that the decoder gives.
-fn every_kind() -> ParsedStory {
+/// Nodes of every kind, with expressions and conditions of every kind, as the decoder gives them.
+fn every_node() -> Vec<Node> {
     let arguments = || vec![variable("v"), target("k"), call("f", vec![constant()])];
-    let root = vec![
+    vec![
         Node::Glue,
         Node::Newline,
         output(Expression::Not(Box::new(negate(constant())))),
@@ -21,6 +21,24 @@ fn every_kind() -> ParsedStory {
         Node::TunnelReturn,
         onwards("k"),
         conditional(vec![Node::Newline], None),
+        sequence(vec![vec![], vec![Node::Newline]]),
+        Node::ReturnBool(true),
+        Node::ReturnExpr(variable("v")),
+        assign(AssignMode::Set, "v"),
+        temp("t"),
+        assign(AssignMode::AddAssign, "v"),
+        assign(AssignMode::SubtractAssign, "v"),
+        choice(None, vec![]),
+        gather("g"),
+        void_call("f", arguments()),
+    ]
+}
+
+/// Nodes with a condition or case.
+fn every_condition() -> Vec<Node> {
+    let tested = Condition::Expression(variable("v"));
+    let conditions = vec![Condition::Bool(true), tested];
+    vec![
         Node::Conditional {
             condition: Condition::FunctionCall("f".to_string()),
             when_true: vec![],
@@ -30,28 +48,19 @@ fn every_kind() -> ParsedStory {
             value: binary(variable("v"), constant()),
             branches: vec![(Some(constant()), vec![Node::Glue]), (None, vec![])],
         },
-        sequence(vec![vec![], vec![Node::Newline]]),
-        Node::ReturnBool(true),
-        Node::ReturnExpr(variable("v")),
-        assign(AssignMode::Set, "v"),
-        temp("t"),
-        assign(AssignMode::AddAssign, "v"),
-        assign(AssignMode::SubtractAssign, "v"),
-        choice(None, vec![]),
-        conditional_choice(
-            Some("c"),
-            vec![Condition::Bool(true), Condition::Expression(variable("v"))],
-            vec![divert("END")],
-        ),
-        gather("g"),
-        void_call("f", arguments()),
-    ];
+        conditional_choice(Some("c"), conditions, vec![divert("END")]),
+    ]
+}
+
+/// A story with every node, expression and condition kind.
+fn every_kind() -> ParsedStory {
     let stitch = knot("s", vec![gather("h")]).with_parameters(&["p"]);
     let flow = knot("k", vec![temp("u")])
         .with_parameters(&["q", "r"])
         .with_marks(&["r"])
-        .with_stitches(vec![stitch, knot("", vec![])]);
+        .with_stitches(vec![stitch, knot("", every_condition())]);
     let flows = vec![flow, function("f", vec![Node::ReturnBool(true)])];
+    let root = [every_node(), every_condition()].concat();
     let story = story(root, flows).with_globals(&["v", "größe"]);
     story.with_externals(&["ext"])
 }

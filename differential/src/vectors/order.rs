@@ -30,52 +30,36 @@ const FIRST_RULES: [u8; 20] = [
 
 /// A story with a fault in every step from one on.
 fn faults_from(first: u8) -> ParsedStory {
-    let from = |step, nodes: Vec<Node>| match step >= first {
-        true => nodes,
-        false => vec![],
-    };
-    let undiverted = || vec![conditional(vec![choice(None, vec![])], None)];
-    let calls = || vec![void_call("k", vec![])];
-    let argument = || vec![jump(4, "END", vec![target("m")])];
-    let gathers = || vec![gather("a"), gather("a")];
-    let body = |steps: [(u8, Vec<Node>); 6]| -> Vec<Node> {
-        let kept = steps
-            .into_iter()
-            .flat_map(|(step, nodes)| from(step, nodes));
-        kept.collect()
-    };
-    let temps = || vec![temp("f")];
-    let targets = || vec![divert("x")];
-    let hidden = || vec![output(variable("h"))];
-    let root = body([
-        (20, gathers()),
-        (4, undiverted()),
-        (3, calls()),
-        (2, targets()),
-        (1, temps()),
-        (0, vec![]),
-    ]);
-    let own = body([
-        (19, gathers()),
-        (11, argument()),
-        (10, undiverted()),
-        (9, calls()),
-        (8, targets()),
-        (7, temps()),
-    ]);
-    let inner = body([
-        (18, gathers()),
-        (17, hidden()),
-        (16, argument()),
-        (15, calls()),
-        (14, targets()),
-        (13, temps()),
-    ]);
+    let root = body_from(first, [1, 2, 3, 4, NEVER, NEVER, 20]);
+    let own = body_from(first, [7, 8, 9, 10, 11, NEVER, 19]);
+    let inner = body_from(first, [13, 14, 15, NEVER, 16, 17, 18]);
     let stitch = knot(if first <= 12 { "g" } else { "s" }, inner).with_marks(&["m"]);
     let flow = knot("k", [own, vec![temp("h")]].concat()).with_marks(&["m"]);
     let flow = flow.with_parameters(if first <= 6 { &["g"] } else { &[] });
-    let pure = function("f", from(5, vec![choice(None, vec![])]));
+    let pure = match first <= 5 {
+        true => function("f", vec![choice(None, vec![])]),
+        false => function("f", vec![]),
+    };
     story(root, vec![pure, flow.with_stitches(vec![stitch])]).with_globals(&["g"])
+}
+
+/// The number of a step that no body has.
+const NEVER: u8 = 0;
+
+/// A body with the faults of its steps from one on, the last step's first in the file.
+fn body_from(first: u8, steps: [u8; 7]) -> Vec<Node> {
+    let faults = [
+        vec![temp("f")],
+        vec![divert("x")],
+        vec![void_call("k", vec![])],
+        vec![conditional(vec![choice(None, vec![])], None)],
+        vec![jump(4, "END", vec![target("m")])],
+        vec![output(variable("h"))],
+        vec![gather("a"), gather("a")],
+    ];
+    let numbered = steps.into_iter().zip(faults).rev();
+    let kept = numbered.filter(|(step, _)| *step != NEVER && *step >= first);
+    kept.flat_map(|(_, nodes)| nodes).collect()
 }
 
 /// A breach in one flow or stitch comes before any in the next.
@@ -111,7 +95,13 @@ fn flows_and_stitches(shelf: &mut Shelf) {
         with(late(), stitches),
         Breach(4, 13),
     );
-    let flows = vec![f(), knot("k", late())];
+    roots_and_knots(shelf);
+}
+
+/// The root's gathers come last, a knot's own list before its stitches.
+fn roots_and_knots(shelf: &mut Shelf) {
+    let late = || vec![gather("a"), gather("a")];
+    let flows = vec![knot("k", late())];
     shelf.story(
         "root-gathers-come-last",
         story(late(), flows),
@@ -148,6 +138,11 @@ fn places(shelf: &mut Shelf) {
         ],
     };
     shelf.story("branch-before-next-case", root(vec![switch]), Breach(3, 3));
+    places_in_flows(shelf);
+}
+
+/// Within a step of a flow the smaller place is first.
+fn places_in_flows(shelf: &mut Shelf) {
     let impure = |nodes| story(vec![], vec![function("f", nodes)]);
     let nodes = vec![divert("x"), choice(None, vec![])];
     shelf.story("divert-before-choice", impure(nodes), Breach(14, 5));

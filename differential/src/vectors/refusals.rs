@@ -1,7 +1,7 @@
 //! Each refusal at each kind of field, and which of several is first met.
 
 use super::Expected::{Accepted, Breach, Refused};
-use super::{Call, Shelf, Vector};
+use super::{Call, Expected, Shelf, Vector};
 use crate::layout::{file, name, number, record, sized, trailer};
 use crate::limits::{nested, placed};
 
@@ -116,7 +116,9 @@ pub fn cut() -> Vec<Vector> {
     whole_and_left_over(&mut shelf);
     cut_names(&mut shelf);
     cut_records(&mut shelf);
-    cut_nodes(&mut shelf);
+    cut_jumps(&mut shelf);
+    cut_branches(&mut shelf);
+    cut_statements(&mut shelf);
     cut_expressions(&mut shelf);
     cut_flows(&mut shelf);
     cut_stitches(&mut shelf);
@@ -187,11 +189,16 @@ fn cut_records(shelf: &mut Shelf) {
     shelf.bytes("second-header-cut", second, Refused(4));
 }
 
-/// Payloads of nodes that end too soon.
-fn cut_nodes(shelf: &mut Shelf) {
+/// Adds root records that are refused.
+fn add_cut(shelf: &mut Shelf, payloads: Vec<(&str, u8, Vec<u8>)>) {
+    for (what, kind, payload) in payloads {
+        shelf.bytes(what, root(&record(kind, &payload)), Refused(4));
+    }
+}
+
+/// Payloads of outputs and jumps that end too soon.
+fn cut_jumps(shelf: &mut Shelf) {
     let x = name(b"x");
-    let list = sized(&[]);
-    let test = constant();
     let payloads: Vec<(&str, u8, Vec<u8>)> = vec![
         ("output-empty", 2, vec![]),
         ("divert-empty", 3, vec![]),
@@ -201,6 +208,15 @@ fn cut_nodes(shelf: &mut Shelf) {
         ("thread-name-short", 5, vec![1]),
         ("onwards-empty", 7, vec![]),
         ("onwards-argument-cut", 7, [&x[..], &[0]].concat()),
+    ];
+    add_cut(shelf, payloads);
+}
+
+/// Payloads of conditionals, switches and sequences that end too soon.
+fn cut_branches(shelf: &mut Shelf) {
+    let list = sized(&[]);
+    let test = constant();
+    let payloads: Vec<(&str, u8, Vec<u8>)> = vec![
         ("conditional-empty", 8, vec![]),
         ("conditional-no-list", 8, test.clone()),
         (
@@ -232,6 +248,15 @@ fn cut_nodes(shelf: &mut Shelf) {
         ("sequence-list-length-cut", 10, vec![0, 0, 0]),
         ("sequence-list-past", 10, number(1).to_vec()),
         ("sequence-record-cut", 10, sized(&[0])),
+    ];
+    add_cut(shelf, payloads);
+}
+
+/// Payloads of the other nodes that end too soon.
+fn cut_statements(shelf: &mut Shelf) {
+    let x = name(b"x");
+    let list = sized(&[]);
+    let payloads: Vec<(&str, u8, Vec<u8>)> = vec![
         ("return-empty", 12, vec![]),
         ("assignment-empty", 13, vec![]),
         ("assignment-no-name", 13, vec![1]),
@@ -266,9 +291,7 @@ fn cut_nodes(shelf: &mut Shelf) {
         ("call-empty", 16, vec![]),
         ("call-argument-cut", 16, [&x[..], &[0, 0, 0, 0]].concat()),
     ];
-    for (what, kind, payload) in payloads {
-        shelf.bytes(what, root(&record(kind, &payload)), Refused(4));
-    }
+    add_cut(shelf, payloads);
 }
 
 /// Payloads of expressions and conditions that end too soon.
@@ -403,13 +426,18 @@ pub fn meanings() -> Vec<Vector> {
     for flag in [2, 0xFF] {
         flags(&mut shelf, flag);
     }
+    modes(&mut shelf);
+    shelf.vectors
+}
+
+/// Modes with and without a meaning.
+fn modes(shelf: &mut Shelf) {
     for mode in 0..6 {
         let payload = [&[mode], &name(b"x")[..], &constant()].concat();
         let expected = if mode < 4 { Accepted } else { Refused(5) };
         let bytes = root(&record(13, &payload));
         shelf.bytes(&format!("mode-{mode}"), bytes, expected);
     }
-    shelf.vectors
 }
 
 /// A flag without a meaning in each place that has one.
@@ -523,46 +551,33 @@ fn flag_faults(shelf: &mut Shelf) {
 
 /// Refusals 7 and 8, which depend on what is lent.
 pub fn lent() -> Vec<Call> {
-    let mut shelf = Shelf::of("01, refusals 7 and 8");
     let empty = || file(&[], &[], &[], &[]);
     let global = || file(&name(b"a"), &[], &[], &[]);
-    let mut lengths = Vec::new();
-    let mut add = |what: &str, input: Vec<u8>, index: usize, message: usize, expected| {
-        shelf.bytes(what, input, expected);
-        lengths.push((index, message));
-    };
-    add("index-of-5", global(), 5, 640, Refused(7));
-    add("index-of-6", global(), 6, 640, Accepted);
-    add("index-of-7", global(), 7, 641, Accepted);
-    add("no-index-for-empty-story", empty(), 0, 640, Accepted);
-    add("message-of-639", empty(), 0, 639, Refused(8));
-    add("no-message", empty(), 0, 0, Refused(8));
-    add("index-before-message", global(), 5, 639, Refused(7));
-    add("unreadable-before-index", root(&[0]), 0, 0, Refused(4));
-    add("mark-before-index", vec![0; 20], 0, 0, Refused(2));
     let divert = || root(&record(3, &name(b"x")));
-    add("breach-with-exact-buffers", divert(), 21, 640, Breach(2, 2));
-    add("breach-with-index-one-short", divert(), 20, 640, Refused(7));
-    add(
-        "breach-with-message-one-short",
-        divert(),
-        21,
-        639,
-        Refused(8),
-    );
-    add(
-        "breach-with-longer-buffers",
-        divert(),
-        30,
-        700,
-        Breach(2, 2),
-    );
-    let calls = shelf.vectors.into_iter().zip(lengths);
-    calls
-        .map(|(vector, (index, message))| Call {
-            vector,
-            index,
-            message,
-        })
-        .collect()
+    vec![
+        lending("index-of-5", global(), 5, 640, Refused(7)),
+        lending("index-of-6", global(), 6, 640, Accepted),
+        lending("index-of-7", global(), 7, 641, Accepted),
+        lending("no-index-for-empty-story", empty(), 0, 640, Accepted),
+        lending("message-of-639", empty(), 0, 639, Refused(8)),
+        lending("no-message", empty(), 0, 0, Refused(8)),
+        lending("index-before-message", global(), 5, 639, Refused(7)),
+        lending("unreadable-before-index", root(&[0]), 0, 0, Refused(4)),
+        lending("mark-before-index", vec![0; 20], 0, 0, Refused(2)),
+        lending("exact-buffers", divert(), 21, 640, Breach(2, 2)),
+        lending("index-one-short", divert(), 20, 640, Refused(7)),
+        lending("message-one-short", divert(), 21, 639, Refused(8)),
+        lending("longer-buffers", divert(), 30, 700, Breach(2, 2)),
+    ]
+}
+
+/// A call with an index and a message buffer of these lengths.
+fn lending(what: &str, input: Vec<u8>, index: usize, message: usize, expected: Expected) -> Call {
+    let mut shelf = Shelf::of("01, refusals 7 and 8");
+    shelf.bytes(what, input, expected);
+    Call {
+        vector: shelf.vectors.remove(0),
+        index,
+        message,
+    }
 }

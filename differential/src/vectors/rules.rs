@@ -154,6 +154,12 @@ fn visiting(value: &Expression) -> Vec<(&'static str, Node)> {
             conditional_choice(None, vec![Condition::Bool(true), condition()], vec![]),
         ),
         ("void-call", void_call("q", vec![constant(), value.clone()])),
+    ]
+}
+
+/// The expressions in which expressions are visited, around one expression.
+fn visiting_inside(value: &Expression) -> Vec<(&'static str, Node)> {
+    vec![
         ("in-negate", output(negate(value.clone()))),
         ("in-not", output(Expression::Not(Box::new(value.clone())))),
         ("in-binary-left", output(binary(value.clone(), constant()))),
@@ -195,7 +201,7 @@ fn unvisited(value: &Expression) -> Vec<(&'static str, Node)> {
 pub fn visited_calls() -> Vec<Vector> {
     let mut shelf = Shelf::of("01, calls: kinds 2, 8, 9, 12, 13, 14, 16");
     let value = call("k", vec![]);
-    for (place, node) in visiting(&value) {
+    for (place, node) in [visiting(&value), visiting_inside(&value)].concat() {
         let name = format!("call-{place}");
         shelf.story(&name, placed("knot", vec![node]), Breach(3, 9));
     }
@@ -230,7 +236,7 @@ pub fn visited_variables() -> Vec<Vector> {
         flow_and_stitch(flow, knot("s", vec![node]))
     };
     let value = variable("t");
-    for (place, node) in visiting(&value) {
+    for (place, node) in [visiting(&value), visiting_inside(&value)].concat() {
         let name = format!("variable-{place}");
         shelf.story(&name, with(node), Breach(15, 17));
     }
@@ -402,6 +408,11 @@ fn parameter_scopes(shelf: &mut Shelf) {
     let mark_clash = knot("k", vec![temp("p")]).with_marks(&["p"]);
     let clash = story(vec![], vec![mark_clash]).with_globals(&["p"]);
     shelf.story("mark-clashes-with-nothing", clash, Accepted);
+    arguments_and_reserved(shelf);
+}
+
+/// Arguments that are not directly a target of kinds 3, 4, 5, and parameters with reserved names.
+fn arguments_and_reserved(shelf: &mut Shelf) {
     let inner = knot("k", vec![jump(3, "END", vec![negate(target("p"))])]).with_marks(&["p"]);
     shelf.story("argument-not-direct", story(vec![], vec![inner]), Accepted);
     let onwards = Node::TunnelOnwardsWithTarget {

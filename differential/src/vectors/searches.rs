@@ -36,55 +36,66 @@ fn to(target: &str) -> ParsedStory {
     story.with_externals(&["ext"])
 }
 
+/// Targets that this story has, by their spelling or its end.
+const FOUND: [&str; 32] = [
+    "",
+    "->",
+    "$",
+    "$hall",
+    "END",
+    "DONE",
+    "->->",
+    "g",
+    "p.q.r",
+    "q.r",
+    "r",
+    "rg",
+    "rc",
+    "deep",
+    "hall",
+    "s",
+    "hall.s",
+    "sg",
+    "s.sg",
+    "hall.s.sg",
+    "kp",
+    "sp",
+    "hall.kg",
+    "kg",
+    "fg",
+    "f.fg",
+    "ng",
+    "ns",
+    ".ns",
+    "nsg",
+    "ns.nsg",
+    ".ns.nsg",
+];
+
+/// Targets that it lacks.
+const MISSING: [&str; 28] = [
+    "x", "all", "hal", "halls", "hall.", ".hall", "hall.sg", "l.s", ".s", "kc.", "km", "kt", "rt",
+    "ext", "RANDOM", "end", "-", "->x", " END", "END.", ".END", "q", "p", ".", "..", ".ng",
+    "hall.ng", "Hall",
+];
+
 /// Targets that are found, by their spelling or its end, and targets that are not.
 pub fn targets() -> Vec<Vector> {
     let mut shelf = Shelf::of("01, third stop: targets");
-    let found = [
-        "",
-        "->",
-        "$",
-        "$hall",
-        "END",
-        "DONE",
-        "->->",
-        "g",
-        "p.q.r",
-        "q.r",
-        "r",
-        "rg",
-        "rc",
-        "deep",
-        "hall",
-        "s",
-        "hall.s",
-        "sg",
-        "s.sg",
-        "hall.s.sg",
-        "kp",
-        "sp",
-        "hall.kg",
-        "kg",
-        "fg",
-        "f.fg",
-        "ng",
-        "ns",
-        ".ns",
-        "nsg",
-        "ns.nsg",
-        ".ns.nsg",
-    ];
-    for target in found {
+    for target in FOUND {
         add_target(&mut shelf, "found", target, Accepted);
     }
-    let missing = [
-        "x", "all", "hal", "halls", "hall.", ".hall", "hall.sg", "l.s", ".s", "kc.", "km", "kt",
-        "rt", "ext", "RANDOM", "end", "-", "->x", " END", "END.", ".END", "q", "p", ".", "..",
-        ".ng", "hall.ng", "Hall",
-    ];
-    for target in missing {
+    for target in MISSING {
         add_target(&mut shelf, "missing", target, Breach(2, 2));
     }
     add_target(&mut shelf, "function", "f", Breach(1, 2));
+    function_targets(&mut shelf);
+    shelf.vectors
+}
+
+/// Targets that are a function's name and something else.
+fn function_targets(shelf: &mut Shelf) {
+    shelf.from = "01, third stop: targets".to_string();
     let own = story(vec![divert("END")], vec![function("END", vec![])]);
     shelf.story("target-function-named-end", own, Breach(1, 2));
     let passes = story(vec![divert("$f")], vec![function("$f", vec![])]);
@@ -101,7 +112,6 @@ pub fn targets() -> Vec<Vector> {
         story(vec![divert("a.b")], spelled),
         Breach(1, 2),
     );
-    shelf.vectors
 }
 
 /// Adds one target; where it came from tells its bytes.
