@@ -1,0 +1,76 @@
+//! The commands: `run` compares stories, `list` prints the stored list, `check` answers as `ink_check`.
+
+use differential::cases::case;
+use differential::compare::compare;
+use differential::second;
+use differential::subject::{Program, Subject};
+use differential::tally::Tally;
+use differential::vectors;
+use std::io::{Read, Write};
+use std::process::ExitCode;
+
+/// Runs the command named first.
+fn main() -> ExitCode {
+    let arguments: Vec<String> = std::env::args().skip(1).collect();
+    match arguments.iter().map(String::as_str).collect::<Vec<_>>()[..] {
+        ["run", count, seed] => match (count.parse(), seed.parse()) {
+            (Ok(count), Ok(seed)) => run(count, seed),
+            _ => usage(),
+        },
+        ["check"] => check(),
+        ["list"] => {
+            print!("{}", vectors::text());
+            ExitCode::SUCCESS
+        }
+        _ => usage(),
+    }
+}
+
+/// Says how to call the program.
+fn usage() -> ExitCode {
+    eprintln!("usage: differential run N SEED | differential list | differential check <FILE");
+    ExitCode::from(2)
+}
+
+/// Prints the second implementation's line for standard input.
+fn check() -> ExitCode {
+    let mut input = Vec::new();
+    if let Err(error) = std::io::stdin().take(4097).read_to_end(&mut input) {
+        eprintln!("{error}");
+        return ExitCode::FAILURE;
+    }
+    let line = [&second::program_line(&input), &b"\n"[..]].concat();
+    match std::io::stdout().write_all(&line) {
+        Ok(()) => ExitCode::SUCCESS,
+        Err(_) => ExitCode::FAILURE,
+    }
+}
+
+/// Compares so many stories of a seed.
+fn run(count: u64, seed: u64) -> ExitCode {
+    let mut program = match Program::find() {
+        Ok(program) => program,
+        Err(error) => {
+            eprintln!("{error}");
+            return ExitCode::from(2);
+        }
+    };
+    match &program {
+        Some(program) => println!("subject: {}", program.title()),
+        None => println!(
+            "subject: none (no INK_CHECK, no program built); the original is compared with the second implementation only"
+        ),
+    }
+    let mut tally = Tally::default();
+    for number in 0..count {
+        let case = case(seed, number);
+        let subject = program.as_mut().map(|program| program as &mut dyn Subject);
+        let outcome = compare(&case, subject);
+        tally.count(number, &case.file, &outcome);
+    }
+    println!("{}", tally.report());
+    match tally.good() {
+        true => ExitCode::SUCCESS,
+        false => ExitCode::FAILURE,
+    }
+}
