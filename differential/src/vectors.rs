@@ -1,6 +1,7 @@
 //! The stored list: small inputs with the answers that every validator must give.
 
 mod examples;
+mod gaps;
 mod lookups;
 mod order;
 mod refusals;
@@ -103,6 +104,7 @@ pub fn vectors() -> Vec<Vector> {
     all.extend(searches::calls());
     all.extend(searches::names());
     all.extend(order::order());
+    all.extend(gaps::gaps());
     all.extend(refusals::header());
     all.extend(refusals::cut());
     all.extend(refusals::meanings());

@@ -415,6 +415,12 @@ fn parameter_scopes(shelf: &mut Shelf) {
 fn arguments_and_reserved(shelf: &mut Shelf) {
     let inner = knot("k", vec![jump(3, "END", vec![negate(target("p"))])]).with_marks(&["p"]);
     shelf.story("argument-not-direct", story(vec![], vec![inner]), Accepted);
+    let by_name = knot("k", vec![jump(3, "END", vec![variable("p")])]).with_marks(&["p"]);
+    shelf.story(
+        "argument-is-variable",
+        story(vec![], vec![by_name]),
+        Accepted,
+    );
     let onwards = Node::TunnelOnwardsWithTarget {
         target: "END".to_string(),
         args: vec![target("p")],
