@@ -1,5 +1,6 @@
 -- The definitions on names.
 pub mod Words
+pub mod Text
 pub mod Reserved
 pub mod Targets
 pub mod Counted
