@@ -1,8 +1,8 @@
 -- Flows by their names. Assumes nothing.
-use mathlib.Core.Path.{_≡_, refl, ap, _∙_}
-use mathlib.Core.List.{List, [], _∷_}
-use mathlib.Core.Bool.{Bool, true, false, _&&_, and-false}
-use Prim.Native.Nat.{ℕ, _+_, _-_}
+use mathlib.Core.Path.{_≡_, refl, _∙_}
+use mathlib.Core.List.{List}
+use mathlib.Core.Bool.{Bool, true, false}
+use Prim.Native.Nat.{ℕ, zero, suc, _+_, _-_}
 use lib.Dec.{eqb}
 use native.Mathlib.Omega.{arith}
 use borrow.Author.Tests.{eq-eqb, ne-eqb}
@@ -14,14 +14,31 @@ use Rattle.fields.specs.Bytes.{listOf}
 use Rattle.fields.proofs.Laws.{to-end, part}
 use Rattle.names.specs.Words.{Bytes, same, any}
 use Rattle.names.specs.Counted.{nameAt}
-use Rattle.story.specs.Story.{Name, Flow}
 use Rattle.story.specs.declared.HeadingRead.{HeadingRead}
 use Rattle.story.specs.declared.HeadingRead.the-variants as heading
 use Rattle.story.specs.Headings.{headingOf}
 use Rattle.story.specs.Items.{nameIn}
-use Rattle.story.specs.Flows.{titledAt, titledIn, flowIn, flowsIn}
-use Rattle.searches.specs.Called.{isFlow, isFunction, calledAs}
-use Rattle.searches.proofs.Pieces.{piece-on, piece-cut, any-pieces}
+use Rattle.story.specs.Flows.{titledAt, titledIn, piecesAt, piecesN, piecesIn, flowIn, flowsIn}
+use Rattle.story.proofs.Alike.{same-flow}
+use Rattle.story.proofs.Unfolding.{pieces-in-step, pieces-in-cut}
+use Rattle.searches.specs.Called.{calledAs}
+
+-- a test that does not depend on the place of a piece does not depend on where the pieces begin
+module _ {A : Type 0} (p : A → Bool) (f : ℕ → List ℕ → A) (free : (a b : ℕ) (s : List ℕ) → p (f a s) ≡ p (f b s)) where
+  any-turns : (n a b : ℕ) (s : List ℕ) → any p (piecesN n f a s) ≡ any p (piecesN n f b s)
+  unfolding piecesN piecesAt
+  any-turns zero a b s = refl
+  any-turns (suc n) a b s = by-span (listOf s) (λ l. any-turns n (a + (4 + l)) (b + (4 + l)) (drop (4 + l) s))
+    where
+      by-span : (r : Span)
+          → ((l : ℕ) → any p (piecesN n f (a + (4 + l)) (drop (4 + l) s)) ≡ any p (piecesN n f (b + (4 + l)) (drop (4 + l) s)))
+          → any p (piecesAt r f (piecesN n f) a s) ≡ any p (piecesAt r f (piecesN n f) b s)
+      by-span (span.Bytes l) more = rw (free a b (take l (drop 4 s)), more l)
+      by-span span.Cut more = refl
+
+  pub any-pieces : (a b : ℕ) (s : List ℕ) → any p (piecesIn f a s) ≡ any p (piecesIn f b s)
+  unfolding piecesIn
+  any-pieces a b s = any-turns (length s) a b s
 
 -- a flow's name, whether its heading can be read or not
 titled-name : (r : HeadingRead) (a : ℕ) (s : List ℕ) → titledAt r a s .name .bytes ≡ nameIn s
@@ -39,8 +56,8 @@ flow-flag a s = refl
 
 -- the test does not depend on the place
 called-free : (b : Bool) (n : Bytes) (p q : ℕ) (s : List ℕ) → calledAs b n (flowIn p s) ≡ calledAs b n (flowIn q s)
-called-free true n p q s = rw (flow-name p s, flow-name q s, flow-flag p s, flow-flag q s)
-called-free false n p q s = rw (flow-name p s, flow-name q s)
+called-free true n p q s = let f = same-flow p q s in rw (f .name, f .function)
+called-free false n p q s = let f = same-flow p q s in rw (f .name)
 
 pub any-flows : (b : Bool) (n : Bytes) (p q : ℕ) (s : List ℕ) → any (calledAs b n) (flowsIn p s) ≡ any (calledAs b n) (flowsIn q s)
 unfolding flowsIn
@@ -64,13 +81,13 @@ module _ (n : Bytes) (s : List ℕ) {function : Bool} where
 module _ (b : Bool) (n : Bytes) (s : List ℕ) where
   pub flows-none : {l : Span} → l ≡ listOf s → l ≡ span.Cut → false ≡ any (calledAs b n) (flowsIn 0 s)
   unfolding flowsIn
-  flows-none e q = rw (piece-cut flowIn 0 s e q)
+  flows-none e q = rw (pieces-in-cut flowIn 0 s e q)
 
   module _ (k : ℕ) {l : Span} (e : l ≡ listOf s) (q : l ≡ span.Bytes k) {r : Bool} (t : r ≡ calledAs b n (flowIn 0 (take (4 + k - 4) (drop 4 s)))) where
     pub flow-found : r ≡ true → true ≡ any (calledAs b n) (flowsIn 0 s)
     unfolding flowsIn
-    flow-found g = rw (piece-on flowIn 0 s k e q, ← part 4 k s, ← t, g)
+    flow-found g = rw (pieces-in-step flowIn 0 k s e q, ← part 4 k s, ← t, g)
 
     pub flow-passed : r ≡ false → any (calledAs b n) (flowsIn 0 s) ≡ any (calledAs b n) (flowsIn 0 (take (length s - (4 + k)) (drop (4 + k) s)))
     unfolding flowsIn
-    flow-passed g = rw (piece-on flowIn 0 s k e q, ← part 4 k s, ← t, g, to-end (4 + k) s) (any-flows b n (0 + (4 + k)) 0 (drop (4 + k) s))
+    flow-passed g = rw (pieces-in-step flowIn 0 k s e q, ← part 4 k s, ← t, g, to-end (4 + k) s) (any-flows b n (0 + (4 + k)) 0 (drop (4 + k) s))

@@ -1,4 +1,4 @@
--- Names one after the other: their words do not depend on places, and a search takes one after the other. Assumes nothing.
+-- A search through names, one after the other. Assumes nothing.
 use mathlib.Core.Path.{_≡_, refl, ap, _∙_}
 use mathlib.Core.List.{List, [], _∷_}
 use mathlib.Core.Bool.{Bool, true, false}
@@ -9,27 +9,9 @@ use lib.ListN.{length, getD, take, drop, length-take}
 use Rattle.fields.proofs.Laws.{to-end}
 use Rattle.names.specs.Words.{Bytes, same, one-of}
 use Rattle.names.specs.Counted.{nameAt}
-use Rattle.names.proofs.Bools.{or-found}
 use Rattle.story.specs.Story.{words}
-use Rattle.story.specs.Flows.{namesN, namesIn, countedIn}
-
--- 1. The words do not depend on the place
-
-pub words-names : (n a b : ℕ) (s : List ℕ) → words (namesN n a s) ≡ words (namesN n b s)
-unfolding namesN
-words-names zero a b s = refl
-words-names (suc n) a b [] = refl
-words-names (suc n) a b (x ∷ s) = ap (λ (l : List Bytes). take x s ∷ l) (words-names n (a + (1 + x)) (b + (1 + x)) (drop x s))
-
-pub words-namesIn : (a b : ℕ) (s : List ℕ) → words (namesIn a s) ≡ words (namesIn b s)
-unfolding namesIn
-words-namesIn a b s = words-names (length s) a b s
-
-pub words-countedIn : (a b : ℕ) (s : List ℕ) → words (countedIn a s) ≡ words (countedIn b s)
-unfolding countedIn
-words-countedIn a b s = words-names (getD s 0 0) (a + 1) (b + 1) (drop 1 s)
-
--- 2. One name after the other
+use Rattle.story.specs.Flows.{namesN, countedIn}
+use Rattle.story.proofs.Alike.{same-names}
 
 -- past as many bytes as a name has, of those that there are
 past-taken : (n : ℕ) (s : List ℕ) → drop (length (take n s)) s ≡ drop n s
@@ -76,7 +58,7 @@ module _ (name : Bytes) where
   front-passed zero t p h e f g = absurd (omega arith)
   front-passed (suc n) [] p h e f g = absurd (h refl)
   front-passed (suc n) (x ∷ t) {w} p h e f g =
-      rw (← e, ← f, g, sub-one (suc n), past-front x t e) (ap (one-of name) (words-names n (0 + (1 + x)) 0 (drop x t)))
+      rw (← e, ← f, g, sub-one (suc n), past-front x t e) (ap (one-of name) (same-names n (0 + (1 + x)) 0 (drop x t)))
 
   -- names after a count byte
   pub counted-none : (s : List ℕ) → length s ≡ 0 → false ≡ one-of name (words (countedIn 0 s))
@@ -86,4 +68,4 @@ module _ (name : Bytes) where
 
   pub counted-some : (s : List ℕ) {r : Bool} → r ≡ one-of name (words (namesN (getD s 0 0) 0 (take (length s - 1) (drop 1 s)))) → r ≡ one-of name (words (countedIn 0 s))
   unfolding countedIn
-  counted-some s e = e ∙ rw (to-end 1 s) (ap (one-of name) (words-names (getD s 0 0) 0 (0 + 1) (drop 1 s)))
+  counted-some s e = e ∙ rw (to-end 1 s) (ap (one-of name) (same-names (getD s 0 0) 0 (0 + 1) (drop 1 s)))

@@ -1,34 +1,25 @@
 -- Parts of parts of the bytes, and names that stand whole in a part. Assumes nothing.
-use mathlib.Core.Path.{_≡_, refl, sym, ap, _∙_}
+use mathlib.Core.Path.{_≡_, refl, _∙_}
 use mathlib.Core.List.{List, [], _∷_}
-use mathlib.Core.Bool.{Bool, true, false}
 use Prim.Native.Nat.{ℕ, zero, suc, _+_, _-_, _≤_, _<_}
-use native.Mathlib.Nat.{add-zero, sub-zero}
+use native.Mathlib.Nat.{add-zero}
 use native.Mathlib.Omega.{arith}
-use lib.Dec.{ltb}
 use lib.ListN.{length, getD, take, drop, length-take, length-drop}
-use lib.Seq.{take-take, take-nil, drop-drop, getD-take, getD-drop}
-use borrow.Author.Tests.{ltb-true}
-use Rattle.fields.specs.declared.Refusal.the-variants.{Short}
+use lib.Seq.{take-take, drop-drop, getD-take, getD-drop}
 use Rattle.fields.specs.declared.NameRead.{NameRead}
 use Rattle.fields.specs.declared.NameRead.the-variants as name
-use Rattle.fields.specs.Bytes.{pick, nameOf}
+use Rattle.fields.specs.Bytes.{nameOf}
 use Rattle.fields.proofs.Laws.{name-fits}
 use Rattle.names.specs.Counted.{nameAt}
-use Rattle.story.specs.declared.Reach.{Reach}
 use Rattle.story.specs.declared.Reach.the-variants as reach
 use Rattle.story.specs.Headings.{reachAt, namesReach, countedReach}
-use Rattle.story.specs.Story.{Name}
 use Rattle.story.specs.Items.{nameIn}
 use Rattle.story.specs.Flows.{namesN, countedIn, part}
+use Rattle.story.proofs.Reaches.{counted-read}
+use Rattle.story.proofs.Unfolding.{name-count}
+use Rattle.story.proofs.Parts.{drop-take}
 
 -- 1. Parts
-
-pub drop-take : (k n : ℕ) (l : List ℕ) → drop k (take n l) ≡ take (n - k) (drop k l)
-drop-take zero n l = rw (sub-zero n)
-drop-take (suc k) zero l = let none : 0 - suc k ≡ 0 = omega arith in rw none
-drop-take (suc k) (suc n) [] = sym (take-nil (suc n - suc k))
-drop-take (suc k) (suc n) (x ∷ l) = let same : suc n - suc k ≡ n - k = omega arith in rw same (drop-take k n l)
 
 part-open : (a b : ℕ) (s : List ℕ) → part a b s ≡ take (b - a) (drop a s)
 unfolding part
@@ -57,6 +48,10 @@ pub part-none : (a b : ℕ) (s : List ℕ) → b ≤ a → part a b s ≡ []
 unfolding part
 part-none a b s h = let none : b - a ≡ 0 = omega arith in rw none
 
+pub part-length : (a b : ℕ) (s : List ℕ) → a ≤ b → b ≤ length s → length (part a b s) ≡ b - a
+unfolding part
+part-length a b s h k = simp (length-take, length-drop) (omega arith)
+
 pub part-short : (a b : ℕ) (s : List ℕ) → length (part a b s) ≤ b - a
 unfolding part
 part-short a b s = simp length-take (omega arith)
@@ -68,15 +63,6 @@ part-first a b s h = getD-take (b - a) (drop a s) 0 0 (omega arith) ∙ rw (getD
 
 -- 2. Names that stand whole in the first m bytes
 
-pub name-count : (s : List ℕ) (k : ℕ) → nameOf s ≡ name.Bytes k → k ≡ getD s 0 0
-unfolding nameOf
-name-count s k e = by-tests (ltb (length s) 1) (ltb (length s - 1) (getD s 0 0)) e
-  where
-    by-tests : (i j : Bool) → pick i (name.Refused Short) (pick j (name.Refused Short) (name.Bytes (getD s 0 0))) ≡ name.Bytes k → k ≡ getD s 0 0
-    by-tests true j e = let z : _≡_ {A = ℕ} 0 1 = cc in absurd (omega arith)
-    by-tests false true e = let z : _≡_ {A = ℕ} 0 1 = cc in absurd (omega arith)
-    by-tests false false e = cc
-
 past-first : (k x : ℕ) (s : List ℕ) → drop (1 + k) (x ∷ s) ≡ drop k s
 past-first k x s = let one : 1 + k ≡ suc k = omega arith in rw one
 
@@ -87,10 +73,10 @@ unfolding namesN
 name-step n a zero w k e more = absurd (omega (arith, name-fits [] k e refl))
 name-step n a (suc m) [] k e more = refl
 name-step n a (suc m) (x ∷ w) k e more =
-    let same : k ≡ x = name-count (x ∷ take m w) k (sym e) in
+    let same : x ≡ k = name-count (x ∷ take m w) k e refl in
     let fits : 1 + k ≤ suc (length (take m w)) = name-fits (x ∷ take m w) k e refl in
     let bytes : take x (take m w) ≡ take x w = take-take x m w (omega (arith, length-take m w)) in
-    let rest : namesN n (a + (1 + x)) (drop x (take m w)) ≡ namesN n (a + (1 + x)) (drop x w) = rw (same, past-first x x (take m w), past-first x x w) at more in
+    let rest : namesN n (a + (1 + x)) (drop x (take m w)) ≡ namesN n (a + (1 + x)) (drop x w) = rw (← same, past-first x x (take m w), past-first x x w) at more in
     rw (bytes, rest)
 
 pub names-whole : (n m a at : ℕ) (u : List ℕ) {e : ℕ} → namesReach (take m u) n at ≡ reach.To e → namesN n a (drop at (take m u)) ≡ namesN n a (drop at u)
@@ -100,7 +86,7 @@ names-whole (suc n) m a at u {e} q = by-name (nameOf (drop at (take m u))) refl 
   where
     by-name : (r : NameRead) → r ≡ nameOf (drop at (take m u))
         → ((k : ℕ) → namesReach (take m u) n (at + (1 + k)) ≡ reach.To e
-          → namesN n (a + (1 + k)) (drop (at + (1 + k)) (take m u)) ≡ namesN n (a + (1 + k)) (drop (at + (1 + k)) u))
+        → namesN n (a + (1 + k)) (drop (at + (1 + k)) (take m u)) ≡ namesN n (a + (1 + k)) (drop (at + (1 + k)) u))
         → reachAt r (namesReach (take m u) n) at ≡ reach.To e → namesN (suc n) a (drop at (take m u)) ≡ namesN (suc n) a (drop at u)
     by-name (name.Bytes k) p more q =
         let cut = drop-take at m u in
@@ -110,23 +96,21 @@ names-whole (suc n) m a at u {e} q = by-name (nameOf (drop at (take m u))) refl 
     by-name (name.Refused r) p more q = let z : _≡_ {A = ℕ} 0 1 = cc in absurd (omega arith)
 
 pub counted-whole : (m a at : ℕ) (u : List ℕ) {e : ℕ} → countedReach (take m u) at ≡ reach.To e → countedIn a (drop at (take m u)) ≡ countedIn a (drop at u)
-unfolding countedReach countedIn
-counted-whole m a at u {e} q = by-test (ltb at (length (take m u))) refl q
-  where
-    by-test : (i : Bool) → ltb at (length (take m u)) ≡ i → pick i (namesReach (take m u) (getD (take m u) at 0) (at + 1)) (reach.Refused Short) ≡ reach.To e
-        → namesN (getD (drop at (take m u)) 0 0) (a + 1) (drop 1 (drop at (take m u))) ≡ namesN (getD (drop at u) 0 0) (a + 1) (drop 1 (drop at u))
-    by-test true t q =
-        let count : getD (take m u) at 0 ≡ getD u at 0 = getD-take m u at 0 (omega (arith, ltb-true at (length (take m u)) t, length-take m u)) in
-        rw (getD-drop at (take m u) 0 0, getD-drop at u 0 0, add-zero at, ← count, drop-drop 1 at (take m u), drop-drop 1 at u)
-        (names-whole (getD (take m u) at 0) m (a + 1) (at + 1) u q)
-    by-test false t q = let z : _≡_ {A = ℕ} 0 1 = cc in absurd (omega arith)
+unfolding countedIn
+counted-whole m a at u q =
+    let c = counted-read (take m u) at q in
+    let count : getD (take m u) at 0 ≡ getD u at 0 = getD-take m u at 0 (omega (arith, c .0, length-take m u)) in
+    rw (getD-drop at (take m u) 0 0, getD-drop at u 0 0, add-zero at, ← count, drop-drop 1 at (take m u), drop-drop 1 at u)
+    (names-whole (getD (take m u) at 0) m (a + 1) (at + 1) u (c .1))
 
 -- 3. Names that stand whole in a part of the file
 
 module _ (file : List ℕ) (p e : ℕ) where
-  pub name-in-part : 1 + getD (part p e file) 0 0 ≤ length (part p e file) → nameIn (part p e file) ≡ nameAt file p
+  pub name-in-part : (k : ℕ) → nameOf (part p e file) ≡ name.Bytes k → nameIn (part p e file) ≡ nameAt file p
   unfolding part nameIn nameAt
-  name-in-part h =
+  name-in-part k told =
+      let fits = name-fits (take (e - p) (drop p file)) k refl told in
+      let first = name-count (take (e - p) (drop p file)) k refl told in
       let long = length-take (e - p) (drop p file) in
       let count : getD (take (e - p) (drop p file)) 0 0 ≡ getD (drop p file) 0 0 = getD-take (e - p) (drop p file) 0 0 (omega arith) in
       rw (count, drop-take 1 (e - p) (drop p file), drop-drop 1 p file) (take-take (getD (drop p file) 0 0) (e - p - 1) (drop (p + 1) file) (omega arith))

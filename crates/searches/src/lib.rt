@@ -4,6 +4,7 @@ ghost use Rattle.names.specs.Words.{one-of, any};
 ghost use Rattle.story.specs.Story.{words};
 ghost use Rattle.story.specs.Flows.{namesN, namesIn, countedIn, flowIn, flowsIn};
 ghost use Rattle.searches.specs.Called.{calledAs, isFlow, isFunction};
+
 pub mod views;
 
 use fields::Span;

@@ -3,10 +3,10 @@ ghost use mathlib.Core.Path.{_≡_};
 ghost use Prim.Native.Nat.{_≤_};
 ghost use lib.ListN.{length};
 ghost use Rattle.searches.specs.Views.{titleViewOf, stitchViewOf, flowViewOf};
-
-use fields::{read_list, Span};
-use story::headings::read_heading;
+use fields::Span;
+use fields::read_list;
 use story::HeadingRead;
+use story::headings::read_heading;
 
 // A stitch: the count bytes of its name, its parameters and its divert parameters, its nodes, and its end.
 pub struct StitchView {

@@ -5,3 +5,13 @@ pub mod Repeats
 pub mod Pieces
 pub mod Titles
 pub mod Opening
+pub mod Readable
+pub mod Unfolding
+pub mod Parts
+pub mod Alike
+pub mod Places
+pub mod Inside
+pub mod Bearing
+pub mod Bearers
+pub mod Named
+pub mod Owned

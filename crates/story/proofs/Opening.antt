@@ -39,7 +39,7 @@ in-order s c false false true true false false false p q r t u e =
       externals = ltb-false (startAt s 8) (startAt s 4) r;
       root = ltb-false (startAt s 12) (startAt s 8) t;
       flows = ltb-false (length s - 20) (startAt s 12) u;
-      end = omega arith;
+      trailer = omega (arith, ltb-false (length s) 20 p);
       short = ltb-false 1048576 (length s) q;
     })
 in-order s c true long mark first second third fourth p q r t u e = let z : _≡_ {A = ℕ} 0 1 = cc in absurd (omega arith)

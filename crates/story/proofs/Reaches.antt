@@ -3,7 +3,7 @@ use mathlib.Core.Path.{_≡_, refl, sym, _∙_, ap}
 use mathlib.Core.List.{List, [], _∷_}
 use mathlib.Core.Bool.{Bool, true, false}
 use Prim.Native.Nat.{ℕ, zero, suc, _+_, _-_, _≤_, _<_}
-use native.Mathlib.Nat.{add-assoc, add-sub-cancel-left}
+use native.Mathlib.Nat.{add-assoc, add-sub-cancel, add-sub-cancel-left}
 use native.Mathlib.Numerals.{sub-one}
 use native.Mathlib.Omega.{arith}
 use lib.Dec.{ltb}
@@ -47,51 +47,72 @@ names-fit s (suc n) at {e} h q = by-name (nameOf (drop at s)) refl (λ k. names-
         omega arith
     by-name (name.Refused r) p more q = let z : _≡_ {A = ℕ} 0 1 = cc in absurd (omega arith)
 
--- a count byte and so many names take a byte at least
-pub counted-fits : (s : List ℕ) (at : ℕ) {e : ℕ} {r : Reach} → r ≡ countedReach s at → r ≡ reach.To e → (at < e) × (e ≤ length s)
+-- where a count byte and so many names are read, the byte is there and the names are read
+pub counted-read : (s : List ℕ) (at : ℕ) {e : ℕ} → countedReach s at ≡ reach.To e → (at < length s) × (namesReach s (getD s at 0) (at + 1) ≡ reach.To e)
 unfolding countedReach
-counted-fits s at {e} p q = by-test (ltb at (length s)) refl (sym p ∙ q)
+counted-read s at {e} q = by-test (ltb at (length s)) refl q
   where
-    by-test : (i : Bool) → ltb at (length s) ≡ i → pick i (namesReach s (getD s at 0) (at + 1)) (reach.Refused Short) ≡ reach.To e → (at < e) × (e ≤ length s)
-    by-test true t q = let h = ltb-true at (length s) t in omega (arith, names-fit s (getD s at 0) (at + 1) (omega arith) q)
+    by-test : (i : Bool) → ltb at (length s) ≡ i → pick i (namesReach s (getD s at 0) (at + 1)) (reach.Refused Short) ≡ reach.To e
+        → (at < length s) × (namesReach s (getD s at 0) (at + 1) ≡ reach.To e)
+    by-test true t q = (ltb-true at (length s) t, q)
     by-test false t q = let z : _≡_ {A = ℕ} 0 1 = cc in absurd (omega arith)
 
--- the parts of a title stand in this order, within the bytes
+-- they take a byte at least
+pub counted-fits : (s : List ℕ) (at : ℕ) {e : ℕ} {r : Reach} → r ≡ countedReach s at → r ≡ reach.To e → (at < e) × (e ≤ length s)
+counted-fits s at p q = let c = counted-read s at (sym p ∙ q) in omega (arith, names-fit s (getD s at 0) (at + 1) (omega (arith, c .0)) (c .1))
+
+-- the parts of a title stand in this order within the bytes, and each is read where it stands
 pub record Laid (h : Heading) (s : List ℕ) : Type 0 where
-  pub name : 1 ≤ h .params
+  pub some : 1 ≤ h .params
   pub params : h .params < h .marks
   pub marks : h .marks + 5 ≤ h .nodes
   pub nodes : h .nodes ≤ h .end
   pub within : h .end ≤ length s
+  pub name-read : nameOf s ≡ name.Bytes (h .params - 1)
+  pub params-read : countedReach s (h .params) ≡ reach.To (h .marks)
+  pub marks-read : countedReach s (h .marks) ≡ reach.To (h .nodes - 4)
+  pub list-read : listOf (drop (h .nodes - 4) s) ≡ span.Bytes (h .end - h .nodes)
 
 module _ (s : List ℕ) (h : Heading) where
-  list-laid : (params marks list : ℕ) (r : Span) → r ≡ listOf (drop list s) → list ≤ length s → 1 ≤ params → params < marks → marks < list → listAt params marks list r ≡ heading.At h → Laid h s
+  list-laid : (k marks list : ℕ) (r : Span) → nameOf s ≡ name.Bytes k → countedReach s (1 + k) ≡ reach.To marks → countedReach s marks ≡ reach.To list → r ≡ listOf (drop list s)
+      → listAt (1 + k) marks list r ≡ heading.At h → Laid h s
   unfolding listAt
-  list-laid params marks list (span.Bytes n) p fits a b c q =
-      let same : record { params = params; marks = marks; nodes = list + 4; end = list + 4 + n } ≡ h = cc in
+  list-laid k marks list (span.Bytes n) named params-to marks-to p q =
+      let same : record { params = 1 + k; marks = marks; nodes = list + 4; end = list + 4 + n } ≡ h = cc in
+      let a = counted-fits s (1 + k) refl params-to in
+      let b = counted-fits s marks refl marks-to in
       let f = list-fits (drop list s) n p refl in
-      rw (← same) (record { name = a; params = b; marks = omega arith; nodes = omega arith; within = omega (arith, length-drop list s) })
-  list-laid params marks list span.Cut p fits a b c q = let z : _≡_ {A = ℕ} 0 1 = cc in absurd (omega arith)
+      rw (← same) (record {
+        some = omega arith;
+        params = a .0;
+        marks = omega (arith, b .0);
+        nodes = omega arith;
+        within = omega (arith, f, b .1, length-drop list s);
+        name-read = rw (add-sub-cancel-left 1 k) named;
+        params-read = params-to;
+        marks-read = rw (add-sub-cancel list 4) marks-to;
+        list-read = rw (add-sub-cancel list 4, add-sub-cancel-left (list + 4) n) (sym p);
+      })
+  list-laid k marks list span.Cut named params-to marks-to p q = let z : _≡_ {A = ℕ} 0 1 = cc in absurd (omega arith)
 
-  marks-laid : (params marks : ℕ) (r : Reach) → r ≡ countedReach s marks → 1 ≤ params → params < marks → marksAt params marks r s ≡ heading.At h → Laid h s
+  marks-laid : (k marks : ℕ) (r : Reach) → nameOf s ≡ name.Bytes k → countedReach s (1 + k) ≡ reach.To marks → countedReach s marks ≡ r → marksAt (1 + k) marks r s ≡ heading.At h → Laid h s
   unfolding marksAt
-  marks-laid params marks (reach.To list) p a b q =
-      let f = counted-fits s marks p refl in list-laid params marks list (listOf (drop list s)) refl (f .1) a b (f .0) q
-  marks-laid params marks (reach.Refused x) p a b q = let z : _≡_ {A = ℕ} 0 1 = cc in absurd (omega arith)
+  marks-laid k marks (reach.To list) named params-to p q = list-laid k marks list (listOf (drop list s)) named params-to p refl q
+  marks-laid k marks (reach.Refused x) named params-to p q = let z : _≡_ {A = ℕ} 0 1 = cc in absurd (omega arith)
 
-  params-laid : (params : ℕ) (r : Reach) → r ≡ countedReach s params → 1 ≤ params → paramsAt params r s ≡ heading.At h → Laid h s
+  params-laid : (k : ℕ) (r : Reach) → nameOf s ≡ name.Bytes k → countedReach s (1 + k) ≡ r → paramsAt (1 + k) r s ≡ heading.At h → Laid h s
   unfolding paramsAt
-  params-laid params (reach.To marks) p a q = marks-laid params marks (countedReach s marks) refl a (counted-fits s params p refl .0) q
-  params-laid params (reach.Refused x) p a q = let z : _≡_ {A = ℕ} 0 1 = cc in absurd (omega arith)
+  params-laid k (reach.To marks) named p q = marks-laid k marks (countedReach s marks) named p refl q
+  params-laid k (reach.Refused x) named p q = let z : _≡_ {A = ℕ} 0 1 = cc in absurd (omega arith)
 
-  name-laid : (r : NameRead) → nameThen r s ≡ heading.At h → Laid h s
+  name-laid : (r : NameRead) → nameOf s ≡ r → nameThen r s ≡ heading.At h → Laid h s
   unfolding nameThen
-  name-laid (name.Bytes k) q = params-laid (1 + k) (countedReach s (1 + k)) refl (omega arith) q
-  name-laid (name.Refused x) q = let z : _≡_ {A = ℕ} 0 1 = cc in absurd (omega arith)
+  name-laid (name.Bytes k) p q = params-laid k (countedReach s (1 + k)) p refl q
+  name-laid (name.Refused x) p q = let z : _≡_ {A = ℕ} 0 1 = cc in absurd (omega arith)
 
   pub heading-laid : {r : HeadingRead} → r ≡ headingOf s → r ≡ heading.At h → Laid h s
   unfolding headingOf
-  heading-laid p q = name-laid (nameOf s) (sym p ∙ q)
+  heading-laid p q = name-laid (nameOf s) refl (sym p ∙ q)
 
 -- 2. As the grammar reads them
 

@@ -1,5 +1,6 @@
 -- A story file: its trailer and sections, how reading it ends, and the story in it.
 use Prim.Native.Nat.{ℕ, _+_, _-_, _≤_}
+use mathlib.Core.Path.{_≡_}
 use mathlib.Core.List.{List, []}
 use mathlib.Core.Bool.{Bool, true, false, not, _&&_, _||_}
 use lib.ListN.{length, getD, take, drop}
@@ -43,12 +44,12 @@ ordered s =
 abbrev pub sectionsOf : List ℕ → Sections
 sectionsOf s = record { externals = startAt s 4; root = startAt s 8; flows = startAt s 12; end = length s - 20 }
 
--- the sections stand in order within a file that is not too long
+-- the sections stand in order before the trailer, in a file that is not too long
 pub record InOrder (c : Sections) (s : List ℕ) : Type 0 where
   pub externals : c .externals ≤ c .root
   pub root : c .root ≤ c .flows
   pub flows : c .flows ≤ c .end
-  pub end : c .end ≤ length s
+  pub trailer : c .end + 20 ≡ length s
   pub short : length s ≤ 1048576
 
 -- refusals 1, 2 and 3, in this order
