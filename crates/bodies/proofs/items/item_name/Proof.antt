@@ -1,0 +1,52 @@
+-- `item_name`: the name begins in the payload where the sort says, unless there is none. Assumes nothing.
+use Rattle.bodies.proofs.Sorts.{item-nameless, item-named-there}
+use borrow.Author.Needs.{needs}
+use Rattle.bodies.proofs.items.item_name.Statement.{statement}
+use Rattle.bodies.proofs.items.item_name.Tie as tie
+
+payload-at-requires : tie.Need-payload-at-requires
+payload-at-requires c κs = search needs
+
+sort-at-requires : tie.Need-sort-at-requires
+sort-at-requires c κs = search needs
+
+is-nameless-requires : tie.Need-is-nameless-requires
+is-nameless-requires c κs = search needs
+
+sub-result : tie.Need-sub-result
+sub-result c = search needs
+
+part-result-start : tie.Need-part-result-start
+part-result-start c = search needs
+
+part-result-end : tie.Need-part-result-end
+part-result-end c = search needs
+
+returns : tie.Need-returns
+returns c = item-nameless (c .before .before .before .before .before .before .args .file .now) (c .before .before .before .before .before .before .args .place) (c .before .before .before .before .before .before .args .tag) (c .before .before .before .before .payload-at .ensures)
+    (c .before .before .is-nameless .ensures _ (c .before .before .before .sort-at .ensures)) (c .before .if1 .taken)
+
+name-start-requires : tie.Need-name-start-requires
+name-start-requires c κs = search needs
+
+name-at-requires : tie.Need-name-at-requires
+name-at-requires c κs = search needs
+
+returns-2 : tie.Need-returns-2
+returns-2 c = item-named-there (c .before .before .before .before .before .before .before .args .file .now) (c .before .before .before .before .before .before .before .args .place) (c .before .before .before .before .before .before .before .args .tag) (c .before .before .before .before .before .payload-at .ensures)
+    (c .before .before .before .is-nameless .ensures _ (c .before .before .before .before .sort-at .ensures)) (c .before .before .if1 .left) (c .before .name-start .ensures _ (c .before .before .before .before .sort-at .ensures)) (c .name-at .ensures)
+
+pub item-name-spec : {M : Type 1} → statement M
+item-name-spec =
+    tie.close
+    (tie.spec
+    payload-at-requires
+    sort-at-requires
+    is-nameless-requires
+    sub-result
+    part-result-start
+    part-result-end
+    returns
+    name-start-requires
+    name-at-requires
+    returns-2)

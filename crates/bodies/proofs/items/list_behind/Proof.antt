@@ -1,0 +1,60 @@
+-- `list_behind`: the list ends within the bytes. Assumes nothing.
+use native.Mathlib.Omega.{arith}
+use Rattle.fields.proofs.Laws.{list-fits}
+use Rattle.bodies.proofs.Parts.{behind-cut, behind-whole}
+use borrow.Author.Needs.{needs}
+use Rattle.bodies.proofs.items.list_behind.Statement.{statement}
+use Rattle.bodies.proofs.items.list_behind.Tie as tie
+
+read-list-requires : tie.Need-read-list-requires
+read-list-requires c κs = search needs
+
+enum-known-l : tie.Need-enum-known-l
+enum-known-l c = search needs
+
+enum-told : tie.Need-enum-told
+enum-told c = search needs
+
+sub-result : tie.Need-sub-result
+sub-result c = search needs
+
+part-result-start : tie.Need-part-result-start
+part-result-start c = search needs
+
+part-result-end : tie.Need-part-result-end
+part-result-end c = search needs
+
+returns : tie.Need-returns
+returns c = behind-cut (c .before .before .before .before .before .args .s .now) (c .before .before .before .read-list .ensures) (c .before .enum-told .given .1)
+
+add-e : tie.Need-add-e
+add-e c = omega (arith, list-fits (c .before .before .before .before .before .args .s .now) (c .before .l .given .0 .0) (c .before .before .before .read-list .ensures) (c .before .l .given .1))
+
+sub-result-2 : tie.Need-sub-result-2
+sub-result-2 c = omega (arith, list-fits (c .before .before .before .before .before .args .s .now) (c .before .l .given .0 .0) (c .before .before .before .read-list .ensures) (c .before .l .given .1))
+
+part-result-start-2 : tie.Need-part-result-start-2
+part-result-start-2 c = omega (arith, list-fits (c .before .before .before .before .before .args .s .now) (c .before .l .given .0 .0) (c .before .before .before .read-list .ensures) (c .before .l .given .1))
+
+part-result-end-2 : tie.Need-part-result-end-2
+part-result-end-2 c = omega (arith, list-fits (c .before .before .before .before .before .args .s .now) (c .before .l .given .0 .0) (c .before .before .before .read-list .ensures) (c .before .l .given .1))
+
+returns-2 : tie.Need-returns-2
+returns-2 c = behind-whole (c .before .before .before .before .before .before .args .s .now) (c .before .before .before .before .read-list .ensures) (c .before .before .l .given .1)
+
+pub list-behind-spec : {M : Type 1} → statement M
+list-behind-spec =
+    tie.close
+    (tie.spec
+    read-list-requires
+    enum-known-l
+    enum-told
+    sub-result
+    part-result-start
+    part-result-end
+    returns
+    add-e
+    sub-result-2
+    part-result-start-2
+    part-result-end-2
+    returns-2)

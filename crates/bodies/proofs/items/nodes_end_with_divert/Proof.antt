@@ -1,0 +1,70 @@
+-- `nodes_end_with_divert`. The loop's invariant: what is left decides, with what was found so far. Assumes nothing.
+use Prim.Native.Nat.{_+_, _≤_}
+use native.Mathlib.Omega.{arith}
+use lib.ListN.{length}
+use Rattle.fields.proofs.Laws.{head-fits}
+use Rattle.bodies.proofs.Endings.{rest-length, Left, left-start, left-end, left-next}
+use borrow.Author.Needs.{needs}
+use Rattle.bodies.proofs.items.nodes_end_with_divert.Statement.{statement}
+use Rattle.bodies.proofs.items.nodes_end_with_divert.Tie as tie
+
+abbrev Inv-loop : tie.InvT-loop
+Inv-loop s rest₀ leaves₀ rest leaves = (length rest ≤ length s) × Left s leaves rest
+
+abbrev μ-loop : tie.MeasureT-loop
+μ-loop s rest₀ leaves₀ rest leaves = length rest
+
+loop-holds : tie.Need-loop-holds Inv-loop μ-loop
+loop-holds c = (search needs, left-start _)
+
+read-head-requires : tie.Need-read-head-requires Inv-loop μ-loop
+read-head-requires c κs = search needs
+
+enum-known-h : tie.Need-enum-known-h Inv-loop μ-loop
+enum-known-h c = search needs
+
+enum-told : tie.Need-enum-told Inv-loop μ-loop
+enum-told c = search needs
+
+returns : tie.Need-returns Inv-loop μ-loop
+returns c = left-end (c .before .before .before .loop .inv .1) (c .before .before .read-head .ensures) (c .enum-told .given .1)
+
+leaves-after-requires : tie.Need-leaves-after-requires Inv-loop μ-loop
+leaves-after-requires c κs = search needs
+
+add-e : tie.Need-add-e Inv-loop μ-loop
+add-e c = omega (arith, head-fits (c .before .before .before .before .before .loop .rest .now) (c .before .before .h .given .0 .0) (c .before .before .h .given .0 .1 .0) (c .before .before .before .before .read-head .ensures) (c .before .before .h .given .1))
+
+sub-rest : tie.Need-sub-rest Inv-loop μ-loop
+sub-rest c = omega (arith, head-fits (c .before .before .before .before .before .loop .rest .now) (c .before .before .h .given .0 .0) (c .before .before .h .given .0 .1 .0) (c .before .before .before .before .read-head .ensures) (c .before .before .h .given .1))
+
+part-rest-start : tie.Need-part-rest-start Inv-loop μ-loop
+part-rest-start c = omega (arith, head-fits (c .before .before .before .before .before .loop .rest .now) (c .before .before .h .given .0 .0) (c .before .before .h .given .0 .1 .0) (c .before .before .before .before .read-head .ensures) (c .before .before .h .given .1))
+
+part-rest-end : tie.Need-part-rest-end Inv-loop μ-loop
+part-rest-end c = omega (arith, head-fits (c .before .before .before .before .before .loop .rest .now) (c .before .before .h .given .0 .0) (c .before .before .h .given .0 .1 .0) (c .before .before .before .before .read-head .ensures) (c .before .before .h .given .1))
+
+loop-less : tie.Need-loop-less Inv-loop μ-loop
+loop-less c = omega (arith, head-fits (c .before .before .before .before .before .before .loop .rest .now) (c .before .before .before .h .given .0 .0) (c .before .before .before .h .given .0 .1 .0) (c .before .before .before .before .before .read-head .ensures) (c .before .before .before .h .given .1), rest-length (5 + c .before .before .before .h .given .0 .1 .0) (c .before .before .before .before .before .before .loop .rest .now))
+
+loop-again : tie.Need-loop-again Inv-loop μ-loop
+loop-again c = (omega (arith, head-fits (c .before .before .before .before .before .before .loop .rest .now) (c .before .before .before .h .given .0 .0) (c .before .before .before .h .given .0 .1 .0) (c .before .before .before .before .before .read-head .ensures) (c .before .before .before .h .given .1), rest-length (5 + c .before .before .before .h .given .0 .1 .0) (c .before .before .before .before .before .before .loop .rest .now)), left-next (c .before .before .before .before .before .before .loop .inv .1) (c .before .before .before .before .before .read-head .ensures) (c .before .before .before .h .given .1) (c .before .leaves-after .ensures))
+
+pub nodes-end-with-divert-spec : {M : Type 1} → statement M
+nodes-end-with-divert-spec =
+    tie.close
+    (tie.spec
+    Inv-loop
+    μ-loop
+    loop-holds
+    read-head-requires
+    enum-known-h
+    enum-told
+    returns
+    leaves-after-requires
+    add-e
+    sub-rest
+    part-rest-start
+    part-rest-end
+    loop-less
+    loop-again)

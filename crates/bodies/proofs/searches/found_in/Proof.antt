@@ -1,0 +1,21 @@
+-- `found_in`: before the last item means among all. Assumes nothing.
+use native.Mathlib.Omega.{arith}
+use Rattle.bodies.proofs.Searching.{found-all}
+use borrow.Author.Needs.{needs}
+use Rattle.bodies.proofs.searches.found_in.Statement.{statement}
+use Rattle.bodies.proofs.searches.found_in.Tie as tie
+
+count-items-requires : tie.Need-count-items-requires
+count-items-requires c κs = search needs
+
+found-before-requires : tie.Need-found-before-requires
+found-before-requires c κs = (c .before .before .before .before .before .before .before .before .pre .0, (c .before .before .before .count-items .ensures .window, omega arith))
+
+same-length : tie.Need-same-length
+same-length c = search needs
+
+returns : tie.Need-returns
+returns c = found-all (c .before .before .before .before .before .before .before .before .before .before .before .args .sought) (c .before .before .before .before .before .before .before .before .before .before .before .args .name .now) (c .before .before .before .before .before .before .count-items .ensures) (c .before .before .found-before .ensures)
+
+pub found-in-spec : {M : Type 1} → statement M
+found-in-spec = tie.close (tie.spec count-items-requires found-before-requires same-length returns)

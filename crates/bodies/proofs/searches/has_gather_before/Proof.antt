@@ -1,0 +1,43 @@
+-- `has_gather_before`: found as a gather, before item number i or among all. Assumes nothing.
+use native.Mathlib.Omega.{arith}
+use Rattle.bodies.specs.declared.searches.Sought.the-variants.{Gather}
+use Rattle.bodies.specs.Search.{ofSort, bears, foundAmong}
+use Rattle.bodies.proofs.Searching.{found-more}
+use borrow.Author.Needs.{needs}
+use Rattle.bodies.proofs.searches.has_gather_before.Statement.{statement}
+use Rattle.bodies.proofs.searches.has_gather_before.Tie as tie
+
+count-items-requires : tie.Need-count-items-requires
+count-items-requires c κs = search needs
+
+found-before-requires : tie.Need-found-before-requires
+found-before-requires c κs = (c .before .before .before .before .before .before .before .before .before .pre .0, (c .before .before .before .before .count-items .ensures .window, omega arith))
+
+same-length : tie.Need-same-length
+same-length c = search needs
+
+returns : tie.Need-returns
+unfolding ofSort bears foundAmong
+returns c = c .before .before .found-before .ensures
+
+found-before-requires-2 : tie.Need-found-before-requires-2
+found-before-requires-2 c κs = (c .before .before .before .before .before .before .before .before .before .pre .0, (c .before .before .before .before .count-items .ensures .window, omega arith))
+
+same-length-2 : tie.Need-same-length-2
+same-length-2 c = search needs
+
+returns-2 : tie.Need-returns-2
+unfolding ofSort bears foundAmong
+returns-2 c = found-more Gather (c .before .before .before .before .before .before .before .before .before .before .before .before .args .name .now) (c .before .before .before .before .before .before .before .count-items .ensures) (c .before .before .found-before2 .ensures) (c .before .before .before .before .before .before .before .before .before .before .before .before .args .i) (c .before .before .before .before .if1 .left)
+
+pub has-gather-before-spec : {M : Type 1} → statement M
+has-gather-before-spec =
+    tie.close
+    (tie.spec
+    count-items-requires
+    found-before-requires
+    same-length
+    returns
+    found-before-requires-2
+    same-length-2
+    returns-2)

@@ -1,0 +1,50 @@
+-- `count_items`: the walk's answer is the number of items, and what it wrote is the window. Assumes nothing.
+use Rattle.bodies.proofs.Fetching.{counted-well, counted-refused}
+use borrow.Author.Needs.{needs}
+use Rattle.bodies.proofs.windows.count_items.Statement.{statement}
+use Rattle.bodies.proofs.windows.count_items.Tie as tie
+
+sub-walk-nodes : tie.Need-sub-walk-nodes
+sub-walk-nodes c = search needs
+
+part-walk-nodes-start : tie.Need-part-walk-nodes-start
+part-walk-nodes-start c = search needs
+
+part-walk-nodes-end : tie.Need-part-walk-nodes-end
+part-walk-nodes-end c = search needs
+
+walk-nodes-requires : tie.Need-walk-nodes-requires
+walk-nodes-requires c κs = search needs
+
+enum-known-answer : tie.Need-enum-known-answer
+enum-known-answer c = search needs
+
+enum-told : tie.Need-enum-told
+enum-told c = search needs
+
+same-length : tie.Need-same-length
+same-length c = search needs
+
+returns : tie.Need-returns
+returns c = counted-refused (c .before .before .before .before .before .before .before .before .before .args .file .now) (λ i. c .before .before .before .before .before .before .before .before .shared-slice-known .given i .fits) (c .before .before .before .before .before .before .before .before .before .args .from) (c .before .before .before .before .before .before .before .before .before .args .to) (c .before .before .before .before .walk-nodes .ensures) (c .enum-told .given .1)
+
+same-length-2 : tie.Need-same-length-2
+same-length-2 c = search needs
+
+returns-2 : tie.Need-returns-2
+returns-2 c = counted-well (c .before .before .before .before .before .before .before .before .before .before .args .file .now) (λ i. c .before .before .before .before .before .before .before .before .before .shared-slice-known .given i .fits) (c .before .before .before .before .before .before .before .before .before .before .args .from) (c .before .before .before .before .before .before .before .before .before .before .args .to) (c .before .before .before .before .before .walk-nodes .ensures) (c .before .answer .given .1)
+
+pub count-items-spec : {M : Type 1} → statement M
+count-items-spec =
+    tie.close
+    (tie.spec
+    sub-walk-nodes
+    part-walk-nodes-start
+    part-walk-nodes-end
+    walk-nodes-requires
+    enum-known-answer
+    enum-told
+    same-length
+    returns
+    same-length-2
+    returns-2)

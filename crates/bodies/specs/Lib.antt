@@ -1,0 +1,3 @@
+pub mod Records
+pub mod Bodies
+pub mod Search
