@@ -1,0 +1,63 @@
+-- `symbols::targets::fit_flow` meets its contract: without a flow the name is the spelling, else the target reaches before the name or not. Assumes nothing.
+use native.Mathlib.Omega.{arith}
+use Rattle.symbols.proofs.Fits.{reach-long, reach-fit, within-fit}
+use Rattle.symbols.proofs.Rows.{dotted-none, dotted-some}
+use mathlib.Core.Path.{sym}
+use lib.Seq.{length-take-le}
+use Rattle.names.specs.Counted.{nameAt}
+use borrow.Author.Needs.{needs}
+use Rattle.symbols.proofs.targets.fit_flow.Statement.{statement}
+use Rattle.symbols.proofs.targets.fit_flow.Tie as tie
+
+fit-word-requires : tie.Need-fit-word-requires
+fit-word-requires c κs = search needs
+
+returns : tie.Need-returns
+returns c = rw (dotted-none (c .before .before .before .before .before .args .file .now) (c .before .before .before .before .before .args .flow) (c .before .before .before .before .before .args .last .now) (c .before .if1 .taken)) (c .fit-word .ensures)
+
+ends-dotted-requires : tie.Need-ends-dotted-requires
+ends-dotted-requires c κs = search needs
+
+sub-rest : tie.Need-sub-rest
+sub-rest c = omega (arith, reach-long (c .before .before .before .before .before .before .args .target .now) (c .before .before .before .before .before .before .args .last .now) (c .before .ends-dotted .ensures) (c .if2 .taken))
+
+sub-rest-2 : tie.Need-sub-rest-2
+sub-rest-2 c = omega (arith, reach-long (c .before .before .before .before .before .before .args .target .now) (c .before .before .before .before .before .before .args .last .now) (c .before .ends-dotted .ensures) (c .if2 .taken))
+
+slice-aggregate-fit-word : tie.Need-slice-aggregate-fit-word
+slice-aggregate-fit-word c = sym (length-take-le _ (c .before .before .before .before .before .before .before .args .target .now) (omega arith))
+
+name-at-requires : tie.Need-name-at-requires
+name-at-requires c κs = search needs
+
+fit-word-requires-2 : tie.Need-fit-word-requires-2
+fit-word-requires-2 c κs = search needs
+
+returns-2 : tie.Need-returns-2
+returns-2 c =
+    rw (dotted-some (c .before .before .before .before .before .before .before .before .before .args .file .now) (c .before .before .before .before .before .before .before .before .before .args .flow) (c .before .before .before .before .before .before .before .before .before .args .last .now) (c .before .before .before .before .before .if1 .left), ← c .before .name-at .ensures)
+    (reach-fit (c .before .before .before .before .before .before .before .before .before .args .target .now) (c .before .before .before .before .before .before .before .before .before .args .last .now) (c .before .before .before .before .ends-dotted .ensures) (c .before .name-at .result .now) (c .before .before .before .if2 .taken) (c .fit-word2 .ensures))
+
+fit-end-requires : tie.Need-fit-end-requires
+fit-end-requires c κs = search needs
+
+returns-3 : tie.Need-returns-3
+returns-3 c =
+    rw (dotted-some (c .before .before .before .before .before .before .before .args .file .now) (c .before .before .before .before .before .before .before .args .flow) (c .before .before .before .before .before .before .before .args .last .now) (c .before .before .before .if1 .left))
+    (within-fit (c .before .before .before .before .before .before .before .args .target .now) (c .before .before .before .before .before .before .before .args .last .now) (c .before .before .ends-dotted .ensures) (nameAt (c .before .before .before .before .before .before .before .args .file .now) (c .before .before .before .before .before .before .before .args .flow)) (c .before .if2 .left) (c .fit-end .ensures))
+
+pub fit-flow-spec : {M : Type 1} → statement M
+fit-flow-spec =
+    tie.close
+    (tie.spec
+    fit-word-requires
+    returns
+    ends-dotted-requires
+    sub-rest
+    sub-rest-2
+    slice-aggregate-fit-word
+    name-at-requires
+    fit-word-requires-2
+    returns-2
+    fit-end-requires
+    returns-3)
