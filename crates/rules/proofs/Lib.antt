@@ -1,0 +1,17 @@
+pub mod Paired
+pub mod Numbered
+pub mod Means
+pub mod Names
+pub mod Table
+pub mod Ran
+pub mod Placed
+pub mod Least
+pub mod Shuffle
+pub mod Spellings
+pub mod Order
+pub mod Demand
+pub mod First
+pub mod Shifted
+pub mod Plain
+pub mod Files
+pub mod Examples

@@ -1,0 +1,6 @@
+pub mod Rules
+pub mod Steps
+pub mod Meaning
+pub mod Placed
+pub mod Alike
+pub mod Files

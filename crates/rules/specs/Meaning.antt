@@ -1,0 +1,160 @@
+-- The rules, the steps and the names of a breach once more, as statements that do not compute; and what it is for a breach to stand.
+-- Assumes nothing.
+use mathlib.Core.Path.{_≡_}
+use mathlib.Core.List.{List, [], _∷_, _++_, map}
+use mathlib.Core.Logic.{_⊎_}
+use Prim.Native.Nat.{ℕ, _<_}
+use lib.Dec.{T}
+use Rattle.names.specs.Words.{Bytes, each, _∈_}
+use Rattle.names.specs.Reserved.{END, DONE, arrow, back, builtins}
+use Rattle.story.specs.Story.{Name, Kind, temp, divert, tunnel, thread, call, variable, argument, choice, gather, parameter, stitchName, flowStart, code, What, Item, Stitch, Flow, Story, words, whats}
+use Rattle.symbols.specs.Spelled.{LabelIn, Spelled}
+use Rattle.rules.specs.declared.Rule.{Rule}
+use Rattle.rules.specs.declared.Rule.the-variants.{FunctionDivertedTo, TargetNotFound, FlowCalled, NameIsFunction, NameIsGlobal, TempIsParameter, TempIsLabel, ParameterUnmarked, ParameterAlreadyMarked, GatherRepeated, ChoiceUndiverted, FunctionWithStitches, FunctionWithChoice, FunctionWithDivert, VariableForbidden}
+use Rattle.rules.specs.Rules.{number, Scope, root, knot, stitch}
+use Rattle.rules.specs.Steps.{Step, s1, s2, s3, s4, s5, s6, s7, s8, s9, s10, s11, s12, s13, s14, s15, s16, s17, s18, s19, s20, Run, run, nameItem, Numbered, numbered, runs, absent, flowNamed, Breach}
+
+-- THE RULES AS STATEMENTS
+
+abbrev pub Is : Kind → What → Type 0
+Is k w = code k ≡ code (w .kind)
+
+-- kinds 3, 4 and 5
+abbrev pub Target : What → Type 0
+Target w = Is divert w ⊎ Is tunnel w ⊎ Is thread w
+
+-- empty, "->" or starting with "$"
+abbrev pub Passes : Bytes → Type 0
+Passes t = ([] ≡ t) ⊎ (arrow ≡ t) ⊎ ((r : Bytes) × (t ≡ 36 ∷ r))
+
+abbrev pub Function : Story → Bytes → Type 0
+Function s n = (f : Flow) × f ∈ s .flows × T (f .function) × (n ≡ f .name .bytes)
+
+abbrev pub FlowName : Story → Bytes → Type 0
+FlowName s n = (f : Flow) × f ∈ s .flows × (n ≡ f .name .bytes)
+
+-- a function, an external or one of the 21 words
+abbrev pub CallPasses : Story → Bytes → Type 0
+CallPasses s n = Function s n ⊎ n ∈ words (s .externals) ⊎ n ∈ builtins
+
+-- END, DONE, ->-> or spelled; or something spelled ends in "." and the name
+abbrev pub Found : Story → Bytes → Type 0
+Found s n = (n ∈ (END ∷ DONE ∷ back ∷ []) ⊎ Spelled s n) ⊎ ((w : Bytes) × Spelled s w × ((p : Bytes) × (w ≡ p ++ (46 ∷ n))))
+
+abbrev pub TempIn : List Item → Bytes → Type 0
+TempIn body n = (w : What) × w ∈ whats body × Is temp w × (n ≡ w .name)
+
+-- a label of the knot or one of its stitches
+abbrev pub KnotLabel : Flow → Bytes → Type 0
+KnotLabel f n = LabelIn (f .body) n ⊎ ((t : Stitch) × t ∈ f .stitches × LabelIn (t .body) n)
+
+abbrev pub Param : Scope → Bytes → Type 0
+Param root n = ⊥
+Param (knot f) n = n ∈ words (f .params)
+Param (stitch f t) n = n ∈ words (t .params)
+
+abbrev pub Mark : Scope → Bytes → Type 0
+Mark root n = ⊥
+Mark (knot f) n = n ∈ words (f .marks)
+Mark (stitch f t) n = n ∈ words (t .marks)
+
+abbrev pub Label : Story → Scope → Bytes → Type 0
+Label s root n = LabelIn (s .root) n
+Label s (knot f) n = KnotLabel f n
+Label s (stitch f t) n = KnotLabel f n
+
+abbrev pub Forbidden : Scope → Bytes → Type 0
+Forbidden root n = ⊥
+Forbidden (knot f) n = ⊥
+Forbidden (stitch f t) n = (n ∈ words (f .params) ⊎ TempIn (f .body) n) × ((n ∈ words (t .params) ⊎ TempIn (t .body) n) → ⊥)
+
+abbrev pub Stitched : Scope → Type 0
+Stitched root = ⊥
+Stitched (knot f) = (t : Stitch) × t ∈ f .stitches
+Stitched (stitch f t) = ⊥
+
+unfoldable pub Broken : Story → Scope → List What → Rule → What → Type 0
+Broken s sc before FunctionDivertedTo w = Target w × (Passes (w .name) → ⊥) × Function s (w .name)
+Broken s sc before TargetNotFound w = Target w × (Passes (w .name) → ⊥) × (Function s (w .name) → ⊥) × (Found s (w .name) → ⊥)
+Broken s sc before FlowCalled w = Is call w × (CallPasses s (w .name) → ⊥) × FlowName s (w .name)
+Broken s sc before NameIsFunction w = (Is temp w ⊎ Is parameter w) × Function s (w .name)
+Broken s sc before NameIsGlobal w = (Is parameter w ⊎ Is stitchName w) × w .name ∈ words (s .globals)
+Broken s sc before TempIsParameter w = Is temp w × Param sc (w .name)
+Broken s sc before TempIsLabel w = Is temp w × Label s sc (w .name)
+Broken s sc before ParameterUnmarked w = Target w × Param sc (w .name) × (Mark sc (w .name) → ⊥)
+Broken s sc before ParameterAlreadyMarked w = Is argument w × Mark sc (w .name)
+Broken s sc before GatherRepeated w = Is gather w × ((v : What) × v ∈ before × Is gather v × (w .name ≡ v .name))
+Broken s sc before ChoiceUndiverted w = Is choice w × T (w .branch) × (T (w .leaves) → ⊥)
+Broken s sc before FunctionWithStitches w = Is flowStart w × Stitched sc
+Broken s sc before FunctionWithChoice w = Is choice w
+Broken s sc before FunctionWithDivert w = Is divert w × ((END ≡ w .name ⊎ DONE ≡ w .name) → ⊥)
+Broken s sc before VariableForbidden w = Is variable w × Forbidden sc (w .name)
+
+-- THE STEPS AS STATEMENTS
+
+-- the numbers bracketed at each step, as 01 lists them
+abbrev pub bracketed : Step → List ℕ
+bracketed s1 = 4 ∷ 7 ∷ []
+bracketed s2 = 1 ∷ 2 ∷ []
+bracketed s3 = 3 ∷ []
+bracketed s4 = 11 ∷ []
+bracketed s5 = 12 ∷ 13 ∷ 14 ∷ []
+bracketed s6 = 4 ∷ 5 ∷ []
+bracketed s7 = 4 ∷ 6 ∷ 7 ∷ []
+bracketed s8 = 1 ∷ 2 ∷ []
+bracketed s9 = 3 ∷ []
+bracketed s10 = 11 ∷ []
+bracketed s11 = 8 ∷ 9 ∷ []
+bracketed s12 = 5 ∷ []
+bracketed s13 = 4 ∷ 6 ∷ 7 ∷ []
+bracketed s14 = 1 ∷ 2 ∷ []
+bracketed s15 = 3 ∷ []
+bracketed s16 = 8 ∷ 9 ∷ []
+bracketed s17 = 15 ∷ []
+bracketed s18 = 10 ∷ []
+bracketed s19 = 10 ∷ []
+bracketed s20 = 10 ∷ []
+
+-- the steps by root, flow and stitch, each with what it visits; step 5 visits nothing in a flow that isn't a function
+pub data Ran (s : Story) : Run → Type 0 where
+  ran-root : {st : Step} → st ∈ (s1 ∷ s2 ∷ s3 ∷ s4 ∷ s20 ∷ []) → Ran s (run root (s .root) st)
+  ran-purity : {f : Flow} {st : Step} → f ∈ s .flows → T (f .function) → st ∈ (s5 ∷ []) → Ran s (run (knot f) (nameItem flowStart (f .at) (f .name) ∷ f .body) st)
+  ran-no-purity : {f : Flow} {st : Step} → f ∈ s .flows → (T (f .function) → ⊥) → st ∈ (s5 ∷ []) → Ran s (run (knot f) [] st)
+  ran-params : {f : Flow} {st : Step} → f ∈ s .flows → st ∈ (s6 ∷ []) → Ran s (run (knot f) (map (λ (n : Name). nameItem parameter (n .at) n) (f .params)) st)
+  ran-flow : {f : Flow} {st : Step} → f ∈ s .flows → st ∈ (s7 ∷ s8 ∷ s9 ∷ s10 ∷ s11 ∷ s19 ∷ []) → Ran s (run (knot f) (f .body) st)
+  ran-name : {f : Flow} {t : Stitch} {st : Step} → f ∈ s .flows → t ∈ f .stitches → st ∈ (s12 ∷ []) → Ran s (run (stitch f t) (nameItem stitchName (t .name .at) (t .name) ∷ []) st)
+  ran-stitch : {f : Flow} {t : Stitch} {st : Step} → f ∈ s .flows → t ∈ f .stitches → st ∈ (s13 ∷ s14 ∷ s15 ∷ s16 ∷ s17 ∷ s18 ∷ []) → Ran s (run (stitch f t) (t .body) st)
+
+-- the numbers of the steps as run: the root's 1 to 4; a flow's 5 to 11, 12 to 18 for each stitch, its 19, then the next flow; the root's 20
+abbrev pub stitchNumbers : Stitch → List ℕ
+stitchNumbers t = 12 ∷ 13 ∷ 14 ∷ 15 ∷ 16 ∷ 17 ∷ 18 ∷ []
+
+abbrev pub flowNumbers : Flow → List ℕ
+flowNumbers f = (5 ∷ 6 ∷ 7 ∷ 8 ∷ 9 ∷ 10 ∷ 11 ∷ []) ++ each stitchNumbers (f .stitches) ++ (19 ∷ [])
+
+abbrev pub runNumbers : Story → List ℕ
+runNumbers s = (1 ∷ 2 ∷ 3 ∷ 4 ∷ []) ++ each flowNumbers (s .flows) ++ (20 ∷ [])
+
+-- THE NAMES AS STATEMENTS: 14 has function and target, 11 none, the others one, which in 12 and 13 is the function
+pub record NamesAre (rule : ℕ) (function own : ℕ) (names : ℕ × ℕ) : Type 0 where
+  pub both : rule ≡ 14 → names ≡ (function, own)
+  pub neither : rule ≡ 11 → names ≡ (absent, absent)
+  pub the-function : (11 < rule) × (rule < 14) → names ≡ (function, absent)
+  pub the-own : (rule < 11) ⊎ (rule ≡ 15) → names ≡ (own, absent)
+
+-- A BREACH STANDS: a step as run visits the item at its place, those of the same body before it are `earlier`, its rule is
+-- bracketed there and broken there, and its names are the rule's.
+pub record Stands (s : Story) (b : Breach) : Type 0 where
+  pub step : Numbered Run
+  pub runs-it : step ∈ numbered 0 (runs s)
+  pub earlier : List Item
+  pub item : Item
+  pub after : List Item
+  pub visits-it : step .it .items ≡ earlier ++ (item ∷ after)
+  pub rule : Rule
+  pub of-step : number rule ∈ bracketed (step .it .step)
+  pub is-broken : Broken s (step .it .scope) (whats earlier) rule (item .what)
+  pub the-instance : b .instance ≡ step .no
+  pub the-rule : b .rule ≡ rule
+  pub the-place : b .place ≡ item .place
+  pub the-names : NamesAre (number rule) (flowNamed (step .it .scope)) (item .named) (b .names)
