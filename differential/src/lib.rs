@@ -24,6 +24,7 @@ pub mod layout;
 pub mod limits;
 pub mod random;
 pub mod second;
+pub mod stored;
 pub mod story;
 pub mod subject;
 pub mod tally;

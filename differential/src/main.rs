@@ -1,8 +1,9 @@
-//! The commands: `run` compares stories, `list` prints the stored list, `check` answers as `ink_check`.
+//! The commands: `run` compares stories, `list` prints the stored list, `stored` writes a program's files, `check` answers as `ink_check`.
 
 use differential::cases::case;
 use differential::compare::compare;
 use differential::second;
+use differential::stored;
 use differential::subject::{Program, Subject};
 use differential::tally::Tally;
 use differential::vectors;
@@ -22,14 +23,33 @@ fn main() -> ExitCode {
             print!("{}", vectors::text());
             ExitCode::SUCCESS
         }
+        ["stored", program, folder] => write_stored(program, folder),
         _ => usage(),
     }
 }
 
 /// Says how to call the program.
 fn usage() -> ExitCode {
-    eprintln!("usage: differential run N SEED | differential list | differential check <FILE");
+    eprintln!(
+        "usage: differential run N SEED | differential list | differential stored PROGRAM FOLDER | differential check <FILE"
+    );
     ExitCode::from(2)
+}
+
+/// Writes what a program reads and what it must write to its folder.
+fn write_stored(program: &str, folder: &str) -> ExitCode {
+    let Some(files) = stored::stored(program) else {
+        eprintln!("no stored files for a program {program}");
+        return ExitCode::from(2);
+    };
+    let folder = std::path::Path::new(folder);
+    for (name, bytes) in [("stdin", files.input), ("stdout", files.output)] {
+        if let Err(error) = std::fs::write(folder.join(name), bytes) {
+            eprintln!("{}: {error}", folder.join(name).display());
+            return ExitCode::FAILURE;
+        }
+    }
+    ExitCode::SUCCESS
 }
 
 /// Prints the second implementation's line for standard input.

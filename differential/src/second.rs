@@ -53,6 +53,11 @@ pub fn check(file: &[u8], index: usize, message: usize) -> Answer {
     }
 }
 
+/// Why a file is not readable, or nothing where it is.
+pub fn refusal(file: &[u8]) -> Option<u8> {
+    reader::read(file).err()
+}
+
 /// All breaches that stand, in order, or the refusal (8 is not among them).
 pub fn all_breaches(file: &[u8], index: usize) -> Result<Vec<Breach>, u8> {
     let story = readable(file, index)?;

@@ -105,12 +105,19 @@ pub fn vectors() -> Vec<Vector> {
     all.extend(searches::names());
     all.extend(order::order());
     all.extend(gaps::gaps());
+    all.extend(readings());
+    all.extend(sample::sample());
+    all
+}
+
+/// The vectors on refusals 1 to 6, in order.
+pub fn readings() -> Vec<Vector> {
+    let mut all = Vec::new();
     all.extend(refusals::header());
     all.extend(refusals::cut());
     all.extend(refusals::meanings());
     all.extend(refusals::depth());
     all.extend(refusals::first_met());
-    all.extend(sample::sample());
     all
 }
 
