@@ -6,8 +6,8 @@ use Prim.Native.Nat.{ℕ, zero, suc, _+_, _-_, _*_, _/_, _%_, _≤_, _<_}
 use native.Mathlib.Numerals.{add-one}
 use native.Mathlib.Omega.{arith}
 use lib.Dec.{ltb}
-use lib.ListN.{length, getD, take, drop, length-append, length-take, length-drop, length-map, List·getD-append, List·getD-map}
-use lib.Seq.{drop-cons, drop-drop, getD-take, getD-drop}
+use lib.ListN.{length, getD, take, drop, length-map, List·getD-map}
+use lib.Seq.{drop-cons, drop-drop, getD-drop}
 use Rattle.fields.specs.declared.Refusal.{Refusal}
 use Rattle.fields.specs.declared.Role.{Role}
 use Rattle.fields.specs.declared.Role.the-variants.{Node, Branch, Cond, Visited, Argument, Unvisited}
@@ -18,9 +18,10 @@ use Rattle.records.specs.declared.Walk.{Walk}
 use Rattle.records.specs.declared.Walk.the-variants as walk
 use Rattle.records.specs.Trace.{Record, met, Ending, well, refused, ends}
 use Rattle.records.specs.Grammar.{nodes}
-use Rattle.records.specs.Window.{pairs, overlay, window, walked, Walked}
+use Rattle.records.specs.Window.{window, walked, Walked}
 use Rattle.records.specs.Stands.{Stands}
 use Rattle.records.proofs.Places.{stands-in-file}
+use Rattle.records.proofs.Windows.{window-length, window-place, window-tag}
 use Rattle.story.specs.Story.{Item}
 use Rattle.story.specs.Items.{itemOf, itemsAs, itemsIn}
 use Rattle.story.specs.Flows.{part}
@@ -72,48 +73,11 @@ module _ (file : List ℕ) (bytes : (i : ℕ) → getD file i 0 < 256) where
       let k = stands-kind h in
       rw (tag-role (r .role) (r .kind) k, tag-kind (r .role) (r .kind) k, stands-payload h)
 
--- 2. Two numbers a record
-
-pairs-length : (rs : List Record) → length (pairs rs) ≡ 2 * length rs
-unfolding pairs
-pairs-length [] = refl
-pairs-length (r ∷ rs) = omega (arith, pairs-length rs)
-
-pairs-at : (rs : List Record) (j : ℕ) (d : Record) → j < length rs
-    → (getD (pairs rs) (2 * j) 0 ≡ getD rs j d .place) × (getD (pairs rs) (2 * j + 1) 0 ≡ tagOf (getD rs j d .role) (getD rs j d .kind))
-unfolding pairs
-pairs-at [] j d h = absurd (omega arith)
-pairs-at (r ∷ rs) zero d h = (refl, refl)
-pairs-at (r ∷ rs) (suc j) d h =
-    let e : 2 * suc j ≡ suc (suc (2 * j)) = omega arith in
-    let f : 2 * suc j + 1 ≡ suc (suc (2 * j + 1)) = omega arith in
-    rw (f, e) (pairs-at rs j d (omega arith))
-
--- 3. The window
+-- 2. The items
 
 -- a record for where there is none
 nowhere : Record
 nowhere = record { role = Node; kind = 0; place = 0; payload = [] }
-
-module _ (skip : ℕ) (rs : List Record) (before : List ℕ) where
-  window-length : length (window skip rs before) ≡ length before
-  unfolding window overlay
-  window-length =
-      simp (length-append, length-drop, pairs-length, length-take) (omega arith)
-
-  window-at : (j : ℕ) → j < length before / 2 → skip + j < length rs
-      → (getD (window skip rs before) (2 * j) 0 ≡ getD rs (skip + j) nowhere .place)
-      × (getD (window skip rs before) (2 * j + 1) 0 ≡ tagOf (getD rs (skip + j) nowhere .role) (getD rs (skip + j) nowhere .kind))
-  unfolding window overlay
-  window-at j h k =
-      let some = take (length before / 2) (drop skip rs) in
-      let long : length (pairs some) ≡ 2 * length some = pairs-length some in
-      let enough : j < length some = omega (arith, length-take (length before / 2) (drop skip rs), length-drop skip rs) in
-      let e : getD some j nowhere ≡ getD rs (skip + j) nowhere = getD-take (length before / 2) (drop skip rs) j nowhere h ∙ getD-drop skip rs j nowhere in
-      rw (List·getD-append (pairs some) (drop (length (pairs some)) before) 0 (2 * j) (omega arith), List·getD-append (pairs some) (drop (length (pairs some)) before) 0 (2 * j + 1) (omega arith), ← e)
-      (pairs-at some j nowhere enough)
-
--- 4. The items
 
 member-at : {A : Type 0} (l : List A) (n : ℕ) (d : A) → n < length l → List·Memᴰ (getD l n d) l
 member-at [] n d h = absurd (omega arith)
@@ -133,8 +97,7 @@ module _ (file : List ℕ) (bytes : (i : ℕ) → getD file i 0 < 256) (from to 
   slots well rs all before j h k =
       let few : skip + j < length rs = omega (arith, length-map rs itemOf) in
       let r = getD rs (skip + j) nowhere in
-      let at = window-at skip rs before j h few in
-      rw (at .0, at .1, record-back file bytes r (all r (member-at rs (skip + j) nowhere few))) (items-at rs (skip + j) k)
+      rw (window-place skip rs before nowhere j h few, window-tag skip rs before nowhere j h few, record-back file bytes r (all r (member-at rs (skip + j) nowhere few))) (items-at rs (skip + j) k)
   slots (refused x) rs all before j h k = absurd (omega arith)
 
   module _ {w : Walk} {before after : List ℕ} (went : Walked (nodes (take (to - from) (drop from file))) from skip before w after) where
@@ -150,7 +113,7 @@ module _ (file : List ℕ) (bytes : (i : ℕ) → getD file i 0 < 256) (from to 
           (slots (ends (nodes s)) (met from (nodes s)) (λ r m. stands-in-file file from (to - from) refl r m) before j (omega (arith, fetched-room)) k);
     }
 
--- 5. The number of items
+-- 3. The number of items
 
 counted-as : (e : Ending) (rs : List Record) {w : Walk} {n : ℕ} → w ≡ walked e (length rs) → w ≡ walk.Done n → n ≡ length (itemsAs e rs)
 unfolding walked itemsAs
@@ -187,7 +150,7 @@ fetched-at file bytes from to i went h =
     let e = fetched-room file bytes from to i went in
     record { early = omega arith; within = omega arith; window = fetched-window file bytes from to i went; room = e }
 
--- 6. Item number i, where the window has it
+-- 4. Item number i, where the window has it
 
 pub fetched-item : {file : List ℕ} {from to i : ℕ} {before : List ℕ} {skip : ℕ} {after : List ℕ} → Refetched file from to i before skip after
     → i < length (bodyIn file from to)

@@ -9,7 +9,7 @@ use Rattle.fields.specs.declared.Head.the-variants as head
 use Rattle.fields.specs.declared.Span.{Span}
 use Rattle.fields.specs.declared.Span.the-variants as span
 use Rattle.fields.specs.Bytes.{headOf, listOf}
-use Rattle.fields.proofs.Laws.{to-end, part}
+use Rattle.fields.proofs.Laws.{part}
 use Rattle.story.specs.Items.{spanned, past}
 use Rattle.bodies.specs.Records.{payloadBehind, payloadAt}
 
@@ -44,6 +44,6 @@ module _ (s : List ℕ) {l : Span} (read : l ≡ listOf s) where
   unfolding past
   behind-cut e = rw (← read, e) (part-none s)
 
-  pub behind-whole : {n : ℕ} → l ≡ span.Bytes n → take (length s - (4 + n)) (drop (4 + n) s) ≡ past (listOf s) s
+  pub behind-whole : {n : ℕ} → l ≡ span.Bytes n → {rest : List ℕ} → rest ≡ drop (4 + n) s → rest ≡ past (listOf s) s
   unfolding past
-  behind-whole {n} e = rw (← read, e) (to-end (4 + n) s)
+  behind-whole e q = rw (← read, e) q

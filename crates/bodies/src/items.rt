@@ -282,8 +282,7 @@ fn list_behind<'a>(s: &'a [u8]) -> &'a [u8]
     let Span::Bytes(n) = l else {
         return &s[s.len()..];
     };
-    let e = 4 + n;
-    &s[e..]
+    tail(s, 4 + n)
 }
 
 // What follows a choice's flag and label.

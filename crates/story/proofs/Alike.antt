@@ -1,10 +1,8 @@
 -- Equal bytes at two places are the same to the rules, but for places. Assumes nothing.
 use mathlib.Core.Path.{_≡_, refl, sym, _∙_, ap}
 use mathlib.Core.List.{List, [], _∷_, map}
-use Prim.Native.Nat.{ℕ, zero, suc, _+_, _-_, _≤_, _<_}
-use native.Mathlib.Omega.{arith}
-use lib.Dec.{eqb}
-use lib.ListN.{length, getD, take, drop, length-drop}
+use Prim.Native.Nat.{ℕ, zero, suc, _+_, _-_}
+use lib.ListN.{length, getD, take, drop}
 use Rattle.fields.specs.declared.Span.{Span}
 use Rattle.fields.specs.declared.Span.the-variants as span
 use Rattle.fields.specs.Bytes.{listOf}
@@ -16,11 +14,11 @@ use Rattle.story.specs.declared.Reach.the-variants as reach
 use Rattle.story.specs.declared.Heading.{Heading}
 use Rattle.story.specs.declared.HeadingRead.{HeadingRead}
 use Rattle.story.specs.declared.HeadingRead.the-variants as heading
-use Rattle.story.specs.Story.{Name, What, Item, Stitch, Flow, words, whats}
+use Rattle.story.specs.Story.{What, Stitch, Flow, words, whats}
 use Rattle.story.specs.Items.{nameIn, itemAs, itemOf, itemsAs, itemsIn}
 use Rattle.story.specs.Headings.{countedReach, headingOf}
 use Rattle.story.specs.Flows.{namesN, namesIn, countedIn, part, titledAt, titledIn, piecesAt, piecesN, piecesIn, stitchIn, flowIn}
-use Rattle.story.proofs.Reaches.{Laid, heading-laid}
+use Rattle.story.proofs.Reaches.{heading-laid}
 use Rattle.story.proofs.Unfolding.{titled-in}
 use Rattle.story.proofs.Parts.{counted-part}
 

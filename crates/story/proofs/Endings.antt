@@ -1,9 +1,7 @@
 -- How a reading made of two ends. Assumes nothing.
 use mathlib.Core.Path.{_≡_, refl, ap}
-use mathlib.Core.List.{List}
 use Prim.Native.Nat.{ℕ}
 use native.Mathlib.Omega.{arith}
-use Rattle.fields.specs.declared.Refusal.{Refusal}
 use Rattle.records.specs.Trace.{Trace, done, refuse, emit, andThen, shift, Ending, well, refused, ends}
 use Rattle.story.specs.declared.Ended.{Ended}
 use Rattle.story.specs.declared.Ended.the-variants as ended

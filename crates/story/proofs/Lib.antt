@@ -10,8 +10,8 @@ pub mod Unfolding
 pub mod Parts
 pub mod Alike
 pub mod Places
-pub mod Inside
-pub mod Bearing
-pub mod Bearers
+pub mod Induction
+pub mod WellInside
+pub mod RecordNames
 pub mod Named
 pub mod Owned

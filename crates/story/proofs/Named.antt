@@ -1,6 +1,6 @@
 -- A name is what the file has at its place: in a part of the file, in a section, in a list of parameters, in a record. Assumes nothing.
-use mathlib.Core.Path.{_≡_, refl, sym, _∙_, ap, subst}
-use mathlib.Core.List.{List, [], _∷_, map, List·Memᴰ, List·Memᴰ·not-nil, List·Memᴰ·cases-cons}
+use mathlib.Core.Path.{_≡_, refl, sym, _∙_, ap}
+use mathlib.Core.List.{List, [], _∷_, List·Memᴰ, List·Memᴰ·not-nil, List·Memᴰ·cases-cons}
 use mathlib.Core.Bool.{Bool, true, false, not, _&&_, _||_}
 use mathlib.Core.Logic.{_⊎_, inl, inr}
 use Prim.Native.Nat.{ℕ, zero, suc, _+_, _-_, _≤_, _<_}
@@ -17,23 +17,21 @@ use Rattle.fields.specs.declared.NameRead.the-variants as name
 use Rattle.fields.specs.Bytes.{pick, nameOf}
 use Rattle.fields.proofs.Laws.{name-fits}
 use Rattle.names.specs.Counted.{nameAt}
-use Rattle.records.specs.Trace.{Trace, Record, met, Ending, well, refused, ends}
+use Rattle.records.specs.Trace.{Record, met, well, ends}
 use Rattle.records.specs.Grammar.{nodes}
-use Rattle.records.specs.Stands.{Stands}
 use Rattle.records.proofs.Places.{stands-in-file, lies-within}
-use Rattle.story.specs.declared.Reach.{Reach}
 use Rattle.story.specs.declared.Reach.the-variants as reach
 use Rattle.story.specs.Story.{Name, Kind, plain, temp, divert, tunnel, thread, call, variable, argument, choice, gather, parameter, stitchName, flowStart, code, What, is, Item}
 use Rattle.story.specs.Items.{nameIn, sortOf, nameStart, nameless, recordName, labelled, whatOf, itemAs, itemOf, itemsIn}
 use Rattle.story.specs.Headings.{reachAt, namesReach, countedReach}
-use Rattle.story.specs.Flows.{names, namesN, namesIn, countedIn, part}
-use Rattle.story.proofs.Reaches.{names-fit, counted-read}
+use Rattle.story.specs.Flows.{names, namesN, countedIn, part}
+use Rattle.story.proofs.Reaches.{counted-read}
 use Rattle.story.proofs.Unfolding.{front, name-count, names-n-step}
 use Rattle.story.proofs.Readable.{names-front, names-rest}
 use Rattle.story.proofs.Parts.{drop-take}
 use Rattle.story.proofs.Places.{item-of}
-use Rattle.story.proofs.Bearing.{Bears, record-bears}
-use Rattle.story.proofs.Bearers.{HasName, bears-name}
+use Rattle.story.proofs.WellInside.{record-bears}
+use Rattle.story.proofs.RecordNames.{HasName, bears-name}
 
 -- 1. Parts of a file
 

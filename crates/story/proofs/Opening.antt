@@ -1,16 +1,16 @@
 -- The file: its sections stand in order, and how reading them ends. Assumes nothing.
-use mathlib.Core.Path.{_≡_, refl, sym, _∙_, ap}
+use mathlib.Core.Path.{_≡_, refl, sym, _∙_}
 use mathlib.Core.List.{List}
 use mathlib.Core.Bool.{Bool, true, false, not, _&&_, _||_}
-use Prim.Native.Nat.{ℕ, _-_, _≤_}
+use Prim.Native.Nat.{ℕ, _-_}
 use native.Mathlib.Omega.{arith}
 use lib.Dec.{ltb, eqb}
 use lib.ListN.{length}
-use borrow.Author.Tests.{ltb-false, eqb-true}
+use borrow.Author.Tests.{ltb-false}
 use Rattle.fields.specs.declared.Refusal.{Refusal}
 use Rattle.fields.specs.declared.Refusal.the-variants.{Length, Mark, Starts}
 use Rattle.fields.specs.Bytes.{pick}
-use Rattle.records.specs.Trace.{Trace, andThen, shift, Ending, well, refused, ends}
+use Rattle.records.specs.Trace.{Ending, well, refused, ends}
 use Rattle.records.specs.Grammar.{nodes}
 use Rattle.story.specs.declared.Sections.{Sections}
 use Rattle.story.specs.declared.Opened.{Opened}
@@ -18,7 +18,7 @@ use Rattle.story.specs.declared.Opened.the-variants as opened
 use Rattle.story.specs.declared.Ended.{Ended}
 use Rattle.story.specs.declared.Ended.the-variants as ended
 use Rattle.story.specs.Flows.{names, flows, part}
-use Rattle.story.specs.File.{badLength, marked, startAt, ordered, sectionsOf, InOrder, openedOf, sectionsRead, readEnded, readAt, readOf}
+use Rattle.story.specs.File.{marked, startAt, sectionsOf, InOrder, openedOf, sectionsRead, readEnded, readAt, readOf}
 use Rattle.story.specs.Endings.{endOf}
 use Rattle.story.proofs.Endings.{thenEnds, ends-then, ends-shift}
 

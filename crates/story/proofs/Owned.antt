@@ -1,12 +1,10 @@
 -- The names of a readable file in file order: they rise, lie before the trailer, and are what the file has at their places. Assumes nothing.
 use mathlib.Core.Path.{_≡_, refl, sym, _∙_, ap}
 use mathlib.Core.List.{List, [], _∷_, _++_, map, List·Memᴰ, List·Memᴰ·not-nil, List·Memᴰ·cases-cons, List·Memᴰ·append-cases, List·Memᴰ·eq-of-singleton, Memᴰ·of-map}
-use mathlib.Core.Bool.{Bool, true, false}
-use mathlib.Core.Logic.{_⊎_, inl, inr, ⊎-elim}
+use mathlib.Core.Bool.{true, false}
+use mathlib.Core.Logic.{⊎-elim}
 use Prim.Native.Nat.{ℕ, zero, suc, _+_, _-_, _≤_, _<_}
-use native.Mathlib.Nat.{add-assoc}
 use native.Mathlib.Omega.{arith}
-use lib.Dec.{T}
 use lib.ListN.{length, getD, take, drop, length-take, length-drop}
 use lib.Seq.{drop-drop}
 use Rattle.fields.specs.declared.Span.{Span}
@@ -17,25 +15,24 @@ use Rattle.names.specs.Words.{Sorted, only, each}
 use Rattle.names.specs.Counted.{nameAt}
 use Rattle.names.proofs.Bools.{is-true}
 use Rattle.names.proofs.Lists.{of-only, of-each, sorted-append, sorted-each, sorted-only}
-use Rattle.records.specs.Trace.{Trace, Record, met, Ending, well, refused, ends}
+use Rattle.records.specs.Trace.{Record, met, Ending, well, refused, ends}
 use Rattle.records.specs.Grammar.{Reading, repeat, ending, nodes}
 use Rattle.records.proofs.Places.{lies-within}
 use Rattle.story.specs.declared.Sections.{Sections}
-use Rattle.story.specs.declared.Reach.{Reach}
 use Rattle.story.specs.declared.Reach.the-variants as reach
 use Rattle.story.specs.declared.Heading.{Heading}
 use Rattle.story.specs.Story.{Name, Item, Stitch, Flow, Story}
 use Rattle.story.specs.Items.{nameIn, itemOf, itemsAs, itemsIn}
 use Rattle.story.specs.Headings.{countedReach}
-use Rattle.story.specs.Flows.{names, titled, piece, stitch, flow, flows, namesN, namesIn, countedIn, part, titledIn, piecesAt, piecesN, piecesIn, stitchIn, flowIn, flowsIn}
-use Rattle.story.specs.File.{InOrder, storyIn}
-use Rattle.story.proofs.Reaches.{Laid, counted-fits}
+use Rattle.story.specs.Flows.{names, piece, stitch, flow, flows, namesIn, countedIn, part, piecesAt, piecesN, piecesIn, stitchIn, flowIn, flowsIn}
+use Rattle.story.specs.File.{storyIn}
+use Rattle.story.proofs.Reaches.{counted-fits}
 use Rattle.story.proofs.Unfolding.{titled-in, flow-in}
-use Rattle.story.proofs.Readable.{Readable, piece-first, piece-rest, piece-front, flows-pieces, TitledWell, titled-heading, flow-titled, stitch-titled, stitch-ends-at}
+use Rattle.story.proofs.Readable.{Readable, piece-first, piece-rest, flows-pieces, TitledWell, titled-heading, flow-titled, stitch-titled}
 use Rattle.story.proofs.Parts.{counted-part}
 use Rattle.story.proofs.Places.{NameBefore, name-within, names-rise, counted-rise, item-of}
-use Rattle.story.proofs.Bearing.{Apart, records-apart}
-use Rattle.story.proofs.Named.{Lies, lies-in-file, lies-at, lies-drop, lies-take, lies-part, AsFile, names-as-file, counted-as-file, name-in-lies, named-near, NamedItem, bare, item-as-file, label-as-file}
+use Rattle.story.proofs.WellInside.{Apart, records-apart}
+use Rattle.story.proofs.Named.{Lies, lies-in-file, lies-at, lies-drop, lies-take, lies-part, AsFile, names-as-file, counted-as-file, name-in-lies, named-near, bare, item-as-file, label-as-file}
 
 -- 1. Names between two places of a file
 

@@ -1,7 +1,7 @@
 -- What is read in a part of the bytes is what is read in the bytes, where it lies in the part. Assumes nothing.
-use mathlib.Core.Path.{_≡_, refl, sym, _∙_, ap}
+use mathlib.Core.Path.{_≡_, refl, sym, _∙_}
 use mathlib.Core.List.{List, [], _∷_}
-use Prim.Native.Nat.{ℕ, zero, suc, _+_, _-_, _≤_, _<_}
+use Prim.Native.Nat.{ℕ, zero, suc, _+_, _-_, _≤_}
 use native.Mathlib.Nat.{zero-sub, add-zero}
 use native.Mathlib.Numerals.{unary-clauses, sub-one}
 use native.Mathlib.Omega.{arith}
@@ -11,9 +11,7 @@ use Rattle.fields.specs.declared.NameRead.{NameRead}
 use Rattle.fields.specs.declared.NameRead.the-variants as name
 use Rattle.fields.specs.Bytes.{nameOf}
 use Rattle.fields.proofs.Laws.{name-fits, name-whole}
-use Rattle.story.specs.declared.Reach.{Reach}
 use Rattle.story.specs.declared.Reach.the-variants as reach
-use Rattle.story.specs.Story.{Name}
 use Rattle.story.specs.Headings.{reachAt, namesReach, countedReach}
 use Rattle.story.specs.Flows.{namesN, countedIn, part}
 use Rattle.story.proofs.Reaches.{names-fit, counted-read}

@@ -1,9 +1,9 @@
 -- Names and pieces to the end: one of them, then the rest. Assumes nothing.
-use mathlib.Core.Path.{_≡_, refl, sym, _∙_, ap}
-use mathlib.Core.List.{List, [], _∷_}
-use Prim.Native.Nat.{ℕ, zero, suc, _+_, _-_, _≤_, _<_}
+use mathlib.Core.Path.{_≡_, refl, _∙_}
+use mathlib.Core.List.{List}
+use Prim.Native.Nat.{ℕ, _+_, _-_, _≤_, _<_}
 use native.Mathlib.Omega.{arith}
-use lib.ListN.{length, take, drop, length-drop}
+use lib.ListN.{length, take, drop}
 use Rattle.fields.specs.declared.Refusal.{Refusal}
 use Rattle.fields.specs.declared.Refusal.the-variants.{Short}
 use Rattle.fields.specs.declared.NameRead.{NameRead}
@@ -12,7 +12,7 @@ use Rattle.fields.specs.declared.Span.{Span}
 use Rattle.fields.specs.declared.Span.the-variants as span
 use Rattle.fields.specs.Bytes.{listOf, nameOf}
 use Rattle.fields.proofs.Laws.{to-end, part}
-use Rattle.records.specs.Trace.{Trace, andThen, shift, Ending, well, refused, ends}
+use Rattle.records.specs.Trace.{shift, well, refused, ends}
 use Rattle.records.specs.Grammar.{Reading, repeat, namedAt, named}
 use Rattle.records.proofs.Readings.{repeat-none}
 use Rattle.story.specs.declared.Ended.{Ended}

@@ -1,16 +1,15 @@
 -- Places rise: along names, along the items of a body, and along pieces; and a flow begins before its items. Each holds of all bytes. Assumes nothing.
-use mathlib.Core.Path.{_≡_, refl, sym, _∙_, ap, subst}
+use mathlib.Core.Path.{_≡_, ap}
 use mathlib.Core.List.{List, [], _∷_, map, List·Memᴰ, List·Memᴰ·not-nil, List·Memᴰ·cases-cons, Memᴰ·of-map}
 use mathlib.Core.Logic.{_⊎_, inl, inr}
-use Prim.Native.Nat.{ℕ, zero, suc, _+_, _-_, _≤_, _<_}
+use Prim.Native.Nat.{ℕ, zero, suc, _+_, _≤_, _<_}
 use native.Mathlib.Omega.{arith}
-use lib.ListN.{length, getD, take, drop, length-take, length-drop}
+use lib.ListN.{length, getD, take, drop, length-drop}
 use Rattle.names.specs.Words.{Sorted}
 use Rattle.fields.specs.declared.Span.{Span}
 use Rattle.fields.specs.declared.Span.the-variants as span
 use Rattle.fields.specs.Bytes.{listOf}
-use Rattle.fields.proofs.Laws.{list-fits}
-use Rattle.records.specs.Trace.{Trace, Record, met, Ending, well, refused, ends}
+use Rattle.records.specs.Trace.{Record, met, Ending, well, refused, ends}
 use Rattle.records.specs.Grammar.{nodes}
 use Rattle.records.specs.Sorted as records
 use Rattle.records.proofs.Places.{places-rise, lies-within}

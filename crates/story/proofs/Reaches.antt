@@ -1,5 +1,5 @@
 -- How far names, lists and headings reach: within the bytes, and as the grammar reads them. Assumes nothing.
-use mathlib.Core.Path.{_≡_, refl, sym, _∙_, ap}
+use mathlib.Core.Path.{_≡_, refl, sym, _∙_}
 use mathlib.Core.List.{List, [], _∷_}
 use mathlib.Core.Bool.{Bool, true, false}
 use Prim.Native.Nat.{ℕ, zero, suc, _+_, _-_, _≤_, _<_}
@@ -19,7 +19,7 @@ use Rattle.fields.specs.declared.Span.{Span}
 use Rattle.fields.specs.declared.Span.the-variants as span
 use Rattle.fields.specs.Bytes.{pick, listOf, nameOf}
 use Rattle.fields.proofs.Laws.{name-fits, list-fits, to-end}
-use Rattle.records.specs.Trace.{Trace, refuse, andThen, shift, Ending, well, refused, ends}
+use Rattle.records.specs.Trace.{shift, Ending, well, refused, ends}
 use Rattle.records.specs.Grammar.{Reading, Reader, namedAt, listedAt, listed, recordOf, nodes, records}
 use Rattle.story.specs.declared.Reach.{Reach}
 use Rattle.story.specs.declared.Reach.the-variants as reach

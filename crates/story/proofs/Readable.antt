@@ -1,10 +1,9 @@
 -- The parts of a readable file are readable: its sections, each name, each flow, each stitch, each list of nodes. Assumes nothing.
 use mathlib.Core.Path.{_≡_, refl, sym, _∙_, ap}
 use mathlib.Core.List.{List, [], _∷_}
-use Prim.Native.Nat.{ℕ, _+_, _-_, _≤_, _<_}
+use Prim.Native.Nat.{ℕ, _+_, _≤_, _<_}
 use native.Mathlib.Omega.{arith}
 use lib.ListN.{length, take, drop, length-drop}
-use lib.Seq.{drop-drop}
 use Rattle.fields.specs.declared.Refusal.{Refusal}
 use Rattle.fields.specs.declared.NameRead.{NameRead}
 use Rattle.fields.specs.declared.NameRead.the-variants as name
@@ -14,13 +13,11 @@ use Rattle.fields.specs.declared.Span.{Span}
 use Rattle.fields.specs.declared.Span.the-variants as span
 use Rattle.fields.specs.Bytes.{listOf, nameOf, flagOf}
 use Rattle.fields.proofs.Laws.{list-fits, name-fits, off-fits, on-fits}
-use Rattle.records.specs.Trace.{Trace, Ending, well, refused, ends}
+use Rattle.records.specs.Trace.{Ending, well, refused, ends}
 use Rattle.records.specs.Grammar.{Reading, repeat, ending, nodes}
 use Rattle.story.specs.declared.Sections.{Sections}
 use Rattle.story.specs.declared.Opened.{Opened}
 use Rattle.story.specs.declared.Opened.the-variants as opened
-use Rattle.story.specs.declared.Reach.{Reach}
-use Rattle.story.specs.declared.Reach.the-variants as reach
 use Rattle.story.specs.declared.Heading.{Heading}
 use Rattle.story.specs.declared.HeadingRead.{HeadingRead}
 use Rattle.story.specs.declared.HeadingRead.the-variants as heading
@@ -28,7 +25,7 @@ use Rattle.story.specs.Headings.{headingOf}
 use Rattle.story.specs.Flows.{names, titled, piece, stitch, flow, flows, part}
 use Rattle.story.specs.File.{InOrder, openedOf, sectionsRead, readEnded, readAt, readOf}
 use Rattle.story.specs.Endings.{reachOf, titledReachAt, titledReach}
-use Rattle.story.proofs.Endings.{thenEnds, first-well, second-well}
+use Rattle.story.proofs.Endings.{first-well, second-well}
 use Rattle.story.proofs.Reaches.{Laid, heading-laid, reachEnds, titled-ends}
 use Rattle.story.proofs.Pieces.{names-on, names-refused, pieces-step, pieces-cut}
 use Rattle.story.proofs.Titles.{flagEnds, flow-ends}

@@ -4,7 +4,6 @@ use mathlib.Core.List.{List, [], _∷_}
 use Prim.Native.Nat.{ℕ, zero, suc, _≤_, _<_}
 use native.Mathlib.Omega.{arith}
 use lib.ListN.{length, drop, length-drop}
-use Rattle.records.specs.Trace.{Trace}
 use Rattle.records.specs.Grammar.{Reading, repeatN, repeat}
 
 -- g looks at what it is given only where bytes are gone

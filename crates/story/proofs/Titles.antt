@@ -1,16 +1,16 @@
 -- Stitches and flows: the heading, the nodes, and what follows them. Assumes nothing.
-use mathlib.Core.Path.{_≡_, refl, sym, _∙_, ap}
+use mathlib.Core.Path.{_≡_, refl, sym, _∙_}
 use mathlib.Core.List.{List, [], _∷_}
-use Prim.Native.Nat.{ℕ, zero, suc, _+_, _-_, _≤_, _<_}
+use Prim.Native.Nat.{ℕ, _-_, _≤_, _<_}
 use native.Mathlib.Omega.{arith}
-use lib.ListN.{length, getD, take, drop, length-drop}
+use lib.ListN.{length, take, drop, length-drop}
 use Rattle.fields.specs.declared.Refusal.{Refusal}
 use Rattle.fields.specs.declared.Refusal.the-variants.{Short}
 use Rattle.fields.specs.declared.FlagRead.{FlagRead}
 use Rattle.fields.specs.declared.FlagRead.the-variants as flag
 use Rattle.fields.specs.Bytes.{flagOf}
 use Rattle.fields.proofs.Laws.{to-end}
-use Rattle.records.specs.Trace.{Trace, shift, Ending, well, refused, ends}
+use Rattle.records.specs.Trace.{Ending, well, refused, ends}
 use Rattle.records.specs.Grammar.{Reading, repeat, ending, flaggedAt, nodes}
 use Rattle.records.specs.declared.Walk.{Walk}
 use Rattle.records.specs.declared.Walk.the-variants as walk
@@ -26,7 +26,7 @@ use Rattle.story.specs.Headings.{headingOf}
 use Rattle.story.specs.Flows.{titled, piece, stitch, flow, part}
 use Rattle.story.specs.Endings.{endOf, reachOf, titledReachAt, titledReach}
 use Rattle.story.proofs.Endings.{ends-shift}
-use Rattle.story.proofs.Reaches.{Laid, heading-laid, reachEnds, titled-ends}
+use Rattle.story.proofs.Reaches.{heading-laid, reachEnds, titled-ends}
 
 -- 1. Nodes
 

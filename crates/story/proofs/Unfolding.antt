@@ -17,10 +17,10 @@ use Rattle.fields.proofs.Laws.{list-fits, name-fits}
 use Rattle.story.specs.declared.Heading.{Heading}
 use Rattle.story.specs.declared.HeadingRead.{HeadingRead}
 use Rattle.story.specs.declared.HeadingRead.the-variants as heading
-use Rattle.story.specs.Story.{Name, Stitch, Flow}
+use Rattle.story.specs.Story.{Name}
 use Rattle.story.specs.Items.{nameIn, itemsIn}
 use Rattle.story.specs.Headings.{headingOf}
-use Rattle.story.specs.Flows.{namesN, namesIn, countedIn, part, titledAt, titledIn, piecesAt, piecesN, piecesIn, stitchIn, stitchesFrom, flowIn, flowsIn}
+use Rattle.story.specs.Flows.{namesN, namesIn, countedIn, part, titledAt, titledIn, piecesAt, piecesN, piecesIn, stitchIn, stitchesFrom, flowIn}
 
 one-more : (n : ℕ) → 1 + n ≡ suc n
 one-more n = omega arith

@@ -1,11 +1,10 @@
 -- A story file: its trailer and sections, how reading it ends, and the story in it.
 use Prim.Native.Nat.{ℕ, _+_, _-_, _≤_}
 use mathlib.Core.Path.{_≡_}
-use mathlib.Core.List.{List, []}
-use mathlib.Core.Bool.{Bool, true, false, not, _&&_, _||_}
-use lib.ListN.{length, getD, take, drop}
+use mathlib.Core.List.{List}
+use mathlib.Core.Bool.{Bool, not, _&&_, _||_}
+use lib.ListN.{length, getD}
 use lib.Dec.{ltb, eqb}
-use Rattle.fields.specs.declared.Refusal.{Refusal}
 use Rattle.fields.specs.declared.Refusal.the-variants.{Length, Mark, Starts}
 use Rattle.fields.specs.Bytes.{pick, le32At}
 use Rattle.records.specs.Trace.{Trace, andThen, shift, Ending, well, refused, ends}

@@ -1,21 +1,18 @@
 -- The grammar of flows and stitches, as 01 has it; and flows and stitches as the rules see them.
 use Prim.Native.Nat.{ℕ, zero, suc, _+_, _-_}
 use mathlib.Core.List.{List, [], _∷_}
-use mathlib.Core.Bool.{Bool, true, false}
 use lib.ListN.{length, getD, take, drop}
 use lib.Dec.{eqb}
-use Rattle.fields.specs.declared.Refusal.{Refusal}
-use Rattle.fields.specs.declared.Refusal.the-variants.{Short, Unknown}
+use Rattle.fields.specs.declared.Refusal.the-variants.{Short}
 use Rattle.fields.specs.declared.Role.the-variants.{Node}
 use Rattle.fields.specs.declared.Span.{Span}
 use Rattle.fields.specs.declared.Span.the-variants as span
-use Rattle.fields.specs.Bytes.{pick, listOf}
-use Rattle.records.specs.Trace.{Trace, done, refuse, andThen, shift}
+use Rattle.fields.specs.Bytes.{listOf}
+use Rattle.records.specs.Trace.{refuse, andThen, shift}
 use Rattle.records.specs.Grammar.{Reading, repeat, named, flagged, listed, ending, recordOf}
-use Rattle.story.specs.declared.Heading.{Heading}
 use Rattle.story.specs.declared.HeadingRead.{HeadingRead}
 use Rattle.story.specs.declared.HeadingRead.the-variants as heading
-use Rattle.story.specs.Story.{Name, Item, Stitch, Flow}
+use Rattle.story.specs.Story.{Name, Stitch, Flow}
 use Rattle.story.specs.Items.{nameIn, itemsIn}
 use Rattle.story.specs.Headings.{headingOf}
 

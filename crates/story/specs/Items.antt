@@ -12,7 +12,7 @@ use Rattle.fields.specs.declared.Span.{Span}
 use Rattle.fields.specs.declared.Span.the-variants as span
 use Rattle.fields.specs.Bytes.{pick, headOf, listOf}
 use Rattle.names.specs.Words.{Bytes, any}
-use Rattle.records.specs.Trace.{Trace, Record, met, Ending, well, refused, ends}
+use Rattle.records.specs.Trace.{Record, met, Ending, well, refused, ends}
 use Rattle.records.specs.Grammar.{nodes}
 use Rattle.story.specs.Story.{Kind, plain, temp, divert, tunnel, thread, call, variable, argument, choice, gather, code, What, Item}
 

@@ -1,4 +1,4 @@
--- `list_behind`: the list ends within the bytes. Assumes nothing.
+-- `list_behind`: what follows the list, where it fits. Assumes nothing.
 use native.Mathlib.Omega.{arith}
 use Rattle.fields.proofs.Laws.{list-fits}
 use Rattle.bodies.proofs.Parts.{behind-cut, behind-whole}
@@ -27,20 +27,14 @@ part-result-end c = search needs
 returns : tie.Need-returns
 returns c = behind-cut (c .before .before .before .before .before .args .s .now) (c .before .before .before .read-list .ensures) (c .before .enum-told .given .1)
 
-add-e : tie.Need-add-e
-add-e c = omega (arith, list-fits (c .before .before .before .before .before .args .s .now) (c .before .l .given .0 .0) (c .before .before .before .read-list .ensures) (c .before .l .given .1))
+add-tail : tie.Need-add-tail
+add-tail c = omega (arith, list-fits (c .before .before .before .before .before .args .s .now) (c .before .l .given .0 .0) (c .before .before .before .read-list .ensures) (c .before .l .given .1))
 
-sub-result-2 : tie.Need-sub-result-2
-sub-result-2 c = omega (arith, list-fits (c .before .before .before .before .before .args .s .now) (c .before .l .given .0 .0) (c .before .before .before .read-list .ensures) (c .before .l .given .1))
-
-part-result-start-2 : tie.Need-part-result-start-2
-part-result-start-2 c = omega (arith, list-fits (c .before .before .before .before .before .args .s .now) (c .before .l .given .0 .0) (c .before .before .before .read-list .ensures) (c .before .l .given .1))
-
-part-result-end-2 : tie.Need-part-result-end-2
-part-result-end-2 c = omega (arith, list-fits (c .before .before .before .before .before .args .s .now) (c .before .l .given .0 .0) (c .before .before .before .read-list .ensures) (c .before .l .given .1))
+tail-requires : tie.Need-tail-requires
+tail-requires c κs = search needs
 
 returns-2 : tie.Need-returns-2
-returns-2 c = behind-whole (c .before .before .before .before .before .before .args .s .now) (c .before .before .before .before .read-list .ensures) (c .before .before .l .given .1)
+returns-2 c = behind-whole (c .before .before .before .before .before .before .args .s .now) (c .before .before .before .before .read-list .ensures) (c .before .before .l .given .1) (c .tail .ensures)
 
 pub list-behind-spec : {M : Type 1} → statement M
 list-behind-spec =
@@ -53,8 +47,6 @@ list-behind-spec =
     part-result-start
     part-result-end
     returns
-    add-e
-    sub-result-2
-    part-result-start-2
-    part-result-end-2
+    add-tail
+    tail-requires
     returns-2)

@@ -2,7 +2,7 @@
 use mathlib.Core.Path.{_≡_, refl, _∙_}
 use Prim.Native.Nat.{_+_, _≤_}
 use native.Mathlib.Omega.{arith}
-use lib.ListN.{length, drop}
+use lib.ListN.{length}
 use Rattle.fields.proofs.Laws.{name-fits, to-end}
 use Rattle.records.specs.Trace.{ends}
 use Rattle.story.specs.Flows.{names}

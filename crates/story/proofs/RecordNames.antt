@@ -1,13 +1,12 @@
 -- A record whose sort has a name is read with a name at its place. Assumes nothing.
-use mathlib.Core.Path.{_≡_, refl, sym, _∙_, ap}
+use mathlib.Core.Path.{_≡_, refl, sym, _∙_}
 use mathlib.Core.List.{List, [], _∷_}
-use mathlib.Core.Bool.{Bool, true, false, not, _&&_, _||_}
-use Prim.Native.Nat.{ℕ, zero, suc, _+_, _-_, _≤_, _<_}
+use mathlib.Core.Bool.{Bool, true, false}
+use Prim.Native.Nat.{ℕ, zero, suc}
 use native.Mathlib.Omega.{arith}
 use lib.Dec.{eqb, ltb}
-use lib.ListN.{length, getD, take, drop}
+use lib.ListN.{length, getD, drop}
 use borrow.Author.Tests.{eqb-true, le-ltb, not-false}
-use Rattle.fields.specs.declared.Refusal.{Refusal}
 use Rattle.fields.specs.declared.Refusal.the-variants.{Unknown}
 use Rattle.fields.specs.declared.Role.{Role}
 use Rattle.fields.specs.declared.Role.the-variants.{Node, Branch, Cond, Visited, Argument, Unvisited}
@@ -15,18 +14,17 @@ use Rattle.fields.specs.declared.Body.{Body}
 use Rattle.fields.specs.declared.Body.the-variants as body
 use Rattle.fields.specs.declared.NameRead.{NameRead}
 use Rattle.fields.specs.declared.NameRead.the-variants as name
-use Rattle.fields.specs.declared.FlagRead.{FlagRead}
 use Rattle.fields.specs.declared.FlagRead.the-variants as flag
 use Rattle.fields.specs.declared.Kinded.{Kinded}
 use Rattle.fields.specs.declared.Kinded.the-variants.{Known, None}
 use Rattle.fields.specs.Bytes.{pick, nameOf, flagOf}
 use Rattle.fields.specs.Kinds.{exprKinds, exprKind, condKinds, condKind, nodeKinds, nodeKind, kindOf}
-use Rattle.records.specs.Trace.{Trace, refuse, shift, Ending, well, refused, ends}
+use Rattle.records.specs.Trace.{refuse, shift, well, ends}
 use Rattle.records.specs.Grammar.{Reading, Reader, namedAt, named, flaggedAt, flagged, moded, records, exact, ending, options, bodyOf, recordOf}
-use Rattle.story.specs.Story.{Kind, plain, temp, divert, tunnel, thread, call, variable, argument, choice, gather, code}
-use Rattle.story.specs.Items.{assigned, nodeSorts, condSorts, exprSorts, argumentSorts, sortOf, flag as flagSet, sameKind, nameStart, nameless}
+use Rattle.story.specs.Story.{Kind, plain, temp, divert, tunnel, thread, call, variable, argument, choice, gather}
+use Rattle.story.specs.Items.{assigned, nodeSorts, condSorts, exprSorts, argumentSorts, sortOf, nameStart, nameless}
 use Rattle.story.proofs.Endings.{ends-shift}
-use Rattle.story.proofs.Bearing.{Bears}
+use Rattle.story.proofs.WellInside.{Bears}
 
 -- 1. Readings that begin with a name
 

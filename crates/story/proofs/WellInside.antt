@@ -1,20 +1,19 @@
 -- Every record of nodes that end well is read well inside; and records stand five bytes apart at least. Assumes nothing.
-use mathlib.Core.Path.{_≡_, refl, sym, _∙_, ap}
-use mathlib.Core.List.{List, [], _∷_, List·Memᴰ, List·Memᴰ·not-nil, List·Memᴰ·cases-cons}
+use mathlib.Core.Path.{_≡_, sym, _∙_, ap}
+use mathlib.Core.List.{List, List·Memᴰ, List·Memᴰ·not-nil, List·Memᴰ·cases-cons}
 use mathlib.Core.Logic.{_⊎_, inl, inr}
-use Prim.Native.Nat.{ℕ, _+_, _≤_, _<_}
+use Prim.Native.Nat.{ℕ, _+_, _≤_}
 use native.Mathlib.Omega.{arith}
 use lib.ListN.{length}
 use Rattle.names.specs.Words.{Sorted}
-use Rattle.fields.specs.declared.Refusal.{Refusal}
 use Rattle.fields.specs.declared.Role.{Role}
 use Rattle.fields.specs.declared.Body.{Body}
 use Rattle.fields.specs.declared.Kinded.the-variants.{Known}
 use Rattle.fields.specs.Kinds.{kindOf}
-use Rattle.records.specs.Trace.{Trace, done, refuse, emit, andThen, shift, Record, met, Ending, well, refused, ends}
+use Rattle.records.specs.Trace.{Trace, done, refuse, emit, andThen, shift, Record, met, well, refused, ends}
 use Rattle.records.specs.Grammar.{bodyOf, recordOf, nodes}
-use Rattle.story.proofs.Endings.{thenEnds, ends-then, ends-shift, first-well, second-well}
-use Rattle.story.proofs.Inside.{Kept, nodes-hold}
+use Rattle.story.proofs.Endings.{ends-then, ends-shift, first-well, second-well}
+use Rattle.story.proofs.Induction.{Kept, nodes-hold}
 
 -- 1. Read well inside
 
