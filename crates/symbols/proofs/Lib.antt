@@ -1,6 +1,9 @@
 pub mod Fits
+pub mod Labels
 pub mod Named
+pub mod Owners
 pub mod Placed
+pub mod ReadBack
 pub mod Rows
 pub mod Searched
 pub mod Spelled

@@ -4,13 +4,15 @@ use mathlib.Core.Bool.{Bool, true, false}
 use mathlib.Core.List.{List, [], _∷_, _++_, map}
 use mathlib.Core.Option.{Option, none, some}
 use Prim.Native.Nat.{ℕ}
+use lib.ListN.{length, length-map}
 use Rattle.names.specs.Words.{Bytes, only, each}
 use Rattle.story.specs.Story.{Name, Item, Stitch, Flow, Story}
 use Rattle.symbols.specs.declared.Places.{Places}
 use Rattle.symbols.specs.Index.{Entry, alone, nameOf, labelled, prefix, stitchEntries, flowEntries, entries}
-use Rattle.symbols.specs.Numbers.{absent, numberOf, placesOf}
-use Rattle.symbols.specs.Placed.{placed, namesPlaced, labelsPlaced, stitchPlaced}
+use Rattle.symbols.specs.Numbers.{absent, numberOf, placesOf, St, store, storeAll}
+use Rattle.symbols.specs.Placed.{placed, namesPlaced, labelsPlaced, prefixNumber, stitchPlaced}
 use Rattle.symbols.proofs.Named.{aloneAt}
+use Rattle.symbols.proofs.Stored.{store-append}
 
 -- 1. Lists
 
@@ -23,6 +25,10 @@ pub placed-each : {A : Type 0} (f : A → List Entry) (xs : List A) → placed (
 unfolding placed
 placed-each f [] = refl
 placed-each f (x ∷ xs) = rw (placed-append (f x) (each f xs), placed-each f xs)
+
+pub placed-length : (es : List Entry) → length (placed es) ≡ length es
+unfolding placed
+placed-length es = length-map es placesOf
 
 -- the same for each element is the same for all
 pub each-same : {A B : Type 0} (f g : A → List B) → ((x : A) → f x ≡ g x) → (xs : List A) → each f xs ≡ each g xs
@@ -63,11 +69,6 @@ stitch-placed f t =
     placed-append first (labelled (some (f .name)) (some (t .name)) (t .body))
     ∙ rw (labels-placed (some (f .name)) (some (t .name)) (t .body), first-placed (record { flow = some (f .name); stitch = none; own = t .name }) (t .params))
 
--- the number that a flow's labels bear
-abbrev pub prefixNumber : Bytes → ℕ → ℕ
-prefixNumber [] at = absent
-prefixNumber (x ∷ xs) at = at
-
 prefix-number : (w : Bytes) (n : Name) → numberOf (prefix w n) ≡ prefixNumber w (n .at)
 prefix-number [] n = refl
 prefix-number (x ∷ xs) n = refl
@@ -86,9 +87,45 @@ flow-placed f =
     (ap (λ (l : List Places). (aloneAt (f .name .at) ∷ namesPlaced (f .params)) ++ labelsPlaced (prefixNumber (f .name .bytes) (f .name .at)) absent (f .body) ++ l)
     (placed-each (stitchEntries f) (f .stitches) ∙ each-same _ _ (stitch-placed f) (f .stitches)))
 
+-- flows one after the other
+pub flows-none : {fs : List Flow} → fs ≡ [] → placed (each flowEntries fs) ≡ []
+unfolding placed
+flows-none e = rw e
+
+pub flows-next : {fs gs : List Flow} {f : Flow} → fs ≡ f ∷ gs → placed (each flowEntries fs) ≡ placed (flowEntries f) ++ placed (each flowEntries gs)
+flows-next {gs = gs} {f = f} e = rw e (placed-append (flowEntries f) (each flowEntries gs))
+
 pub story-placed : (s : Story) → placed (entries s)
     ≡ namesPlaced (s .globals) ++ labelsPlaced absent absent (s .root) ++ placed (each flowEntries (s .flows))
 unfolding entries
 story-placed s =
     placed-append (map alone (s .globals) ++ labelled none none (s .root)) (each flowEntries (s .flows))
     ∙ rw (placed-append (map alone (s .globals)) (labelled none none (s .root)), names-placed (s .globals), labels-placed none none (s .root))
+
+-- 3. Parts stored one after the other
+
+module _ (s : St) {s₁ s₂ s₃ : St} where
+  pub stitch-stored : (flow : ℕ) (t : Stitch) → s₁ ≡ store s (record { flow = flow; stitch = absent; own = t .name .at })
+      → s₂ ≡ storeAll s₁ (namesPlaced (t .params)) → s₃ ≡ storeAll s₂ (labelsPlaced flow (t .name .at) (t .body)) → s₃ ≡ storeAll s (stitchPlaced flow t)
+  unfolding stitchPlaced storeAll
+  stitch-stored flow t a b c =
+      let first : List Places = record { flow = flow; stitch = absent; own = t .name .at } ∷ namesPlaced (t .params) in
+      c ∙ rw (store-append first (labelsPlaced flow (t .name .at) (t .body)) s, b, a)
+
+  pub flow-stored : {s₄ : St} {prefix : ℕ} (f : Flow) → s₁ ≡ store s (aloneAt (f .name .at)) → s₂ ≡ storeAll s₁ (namesPlaced (f .params))
+      → prefix ≡ prefixNumber (f .name .bytes) (f .name .at) → s₃ ≡ storeAll s₂ (labelsPlaced prefix absent (f .body))
+      → s₄ ≡ storeAll s₃ (each (stitchPlaced (f .name .at)) (f .stitches)) → s₄ ≡ storeAll s (placed (flowEntries f))
+  unfolding storeAll
+  flow-stored f a b p c d =
+      let first : List Places = aloneAt (f .name .at) ∷ namesPlaced (f .params) in
+      let own = labelsPlaced (prefixNumber (f .name .bytes) (f .name .at)) absent (f .body) in
+      let rest = each (stitchPlaced (f .name .at)) (f .stitches) in
+      d ∙ rw (flow-placed f, store-append (first ++ own) rest s, store-append first own s, c, p, b, a)
+
+  pub story-stored : (t : Story) → s₁ ≡ storeAll s (namesPlaced (t .globals)) → s₂ ≡ storeAll s₁ (labelsPlaced absent absent (t .root))
+      → s₃ ≡ storeAll s₂ (placed (each flowEntries (t .flows))) → s₃ ≡ storeAll s (placed (entries t))
+  story-stored t a b c =
+      let first = namesPlaced (t .globals) in
+      let own = labelsPlaced absent absent (t .root) in
+      let rest = placed (each flowEntries (t .flows)) in
+      c ∙ rw (story-placed t, store-append (first ++ own) rest s, store-append first own s, b, a)

@@ -1,7 +1,7 @@
--- The index and how it is read.
 pub mod Index
+pub mod Spelled
 pub mod Numbers
 pub mod Fits
 pub mod Rows
 pub mod Placed
-pub mod Spelled
+pub mod Stands

@@ -31,8 +31,8 @@ unfoldable pub spellingIn : List ℕ → Places → Bytes
 spellingIn file p = dottedIn file (p .flow) (dottedIn file (p .stitch) (nameAt file (p .own)))
 
 -- the spellings of the first so many entries
-unfoldable pub spellings : List ℕ → ℕ → List ℕ → List Bytes
-spellings file count index = map (spellingIn file) (take count (rows index))
+unfoldable pub spellingsIn : List ℕ → ℕ → List ℕ → List Bytes
+spellingsIn file count index = map (spellingIn file) (take count (rows index))
 
 -- the number of the first that passes, from k on
 unfoldable pub firstOf : (Bytes → Bool) → ℕ → List Bytes → Found

@@ -3,7 +3,7 @@ ghost use mathlib.Core.Path.{_≡_};
 ghost use mathlib.Core.List.{_∷_};
 ghost use Rattle.names.specs.Words.{same, any, ends};
 ghost use Rattle.symbols.specs.Fits.{fitOf, endFit, answers};
-ghost use Rattle.symbols.specs.Rows.{dottedIn, spellingIn, spellings, firstOf, wanted, sought};
+ghost use Rattle.symbols.specs.Rows.{dottedIn, spellingIn, spellingsIn, firstOf, wanted, sought};
 use crate::ABSENT;
 use crate::Fit;
 use crate::Found;
@@ -105,7 +105,7 @@ fn find_entry(
     exact: bool,
     ending: bool,
 ) -> Found
-    ensures { λ r. ⌜ r ≡ firstOf (sought exact ending (now (target .entry))) 0 (spellings (now (file .entry)) count (now (index .entry))) ⌝ }
+    ensures { λ r. ⌜ r ≡ firstOf (sought exact ending (now (target .entry))) 0 (spellingsIn (now (file .entry)) count (now (index .entry))) ⌝ }
 {
     let mut rest = index;
     let mut k = 0;
@@ -129,21 +129,21 @@ fn find_entry(
 
 // The number of the first of so many entries whose spelling is the target.
 pub fn find_exact(file: &[u8], index: &[u32], count: usize, target: &[u8]) -> Found
-    ensures { λ r. ⌜ r ≡ firstOf (same (now (target .entry))) 0 (spellings (now (file .entry)) count (now (index .entry))) ⌝ }
+    ensures { λ r. ⌜ r ≡ firstOf (same (now (target .entry))) 0 (spellingsIn (now (file .entry)) count (now (index .entry))) ⌝ }
 {
     find_entry(file, index, count, target, true, false)
 }
 
 // The number of the first of so many entries whose spelling ends in "." and the target.
 pub fn find_ending(file: &[u8], index: &[u32], count: usize, target: &[u8]) -> Found
-    ensures { λ r. ⌜ r ≡ firstOf (ends (46 ∷ now (target .entry))) 0 (spellings (now (file .entry)) count (now (index .entry))) ⌝ }
+    ensures { λ r. ⌜ r ≡ firstOf (ends (46 ∷ now (target .entry))) 0 (spellingsIn (now (file .entry)) count (now (index .entry))) ⌝ }
 {
     find_entry(file, index, count, target, false, true)
 }
 
 // Some of so many entries is spelled as the target, or ends in "." and the target.
 pub fn find_target(file: &[u8], index: &[u32], count: usize, target: &[u8]) -> bool
-    ensures { λ r. ⌜ r ≡ any (answers (now (target .entry))) (spellings (now (file .entry)) count (now (index .entry))) ⌝ }
+    ensures { λ r. ⌜ r ≡ any (answers (now (target .entry))) (spellingsIn (now (file .entry)) count (now (index .entry))) ⌝ }
 {
     let found = find_entry(file, index, count, target, true, true);
     match found {

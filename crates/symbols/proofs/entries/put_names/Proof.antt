@@ -9,9 +9,6 @@ use Rattle.symbols.proofs.Named.{names-asked, names-past, names-on}
 use borrow.Author.Needs.{needs}
 use Rattle.symbols.proofs.entries.put_names.Statement.{statement}
 use Rattle.symbols.proofs.entries.put_names.Tie as tie
-use Rattle.symbols.proofs.entries.put_names.Reads as reads
-use Rattle.symbols.proofs.entries.put_names.Lts as lts
-use Rattle.symbols.proofs.entries.put_entry.Reads as put-entry-reads
 
 abbrev Inv-loop : tie.InvT-loop
 Inv-loop file many from end index₀ n left₀ at₀ count₀ index left at count =

@@ -4,9 +4,6 @@ use Rattle.symbols.proofs.Named.{counted-names}
 use borrow.Author.Needs.{needs}
 use Rattle.symbols.proofs.entries.put_params.Statement.{statement}
 use Rattle.symbols.proofs.entries.put_params.Tie as tie
-use Rattle.symbols.proofs.entries.put_params.Reads as reads
-use Rattle.symbols.proofs.entries.put_params.Lts as lts
-use Rattle.symbols.proofs.entries.put_names.Reads as put-names-reads
 
 shared-slice-read-put-names : tie.Need-shared-slice-read-put-names
 shared-slice-read-put-names c = search needs

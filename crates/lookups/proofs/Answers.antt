@@ -1,0 +1,61 @@
+-- The answer of a lookup and the index it leaves, by how it went. Assumes nothing.
+use mathlib.Core.Path.{_≡_, refl, sym, _∙_, ap}
+use mathlib.Core.List.{List}
+use mathlib.Core.Bool.{Bool, true}
+use Prim.Native.Nat.{ℕ, _-_, _*_, _≤_, _<_}
+use lib.ListN.{length, take, drop}
+use borrow.Author.Tests.{lt-ltb, le-ltb}
+use Rattle.fields.specs.declared.Refusal.{Refusal}
+use Rattle.names.specs.Words.{Bytes, any}
+use Rattle.story.specs.declared.Sections.{Sections}
+use Rattle.story.specs.declared.Opened.{Opened}
+use Rattle.story.specs.declared.Opened.the-variants as opened
+use Rattle.story.specs.Flows.{flowsIn, part}
+use Rattle.story.specs.File.{readOf, storyIn}
+use Rattle.story.proofs.Readable.{Readable, readable}
+use Rattle.searches.specs.Called.{isFunction}
+use Rattle.searches.proofs.Answers.{flows-answer}
+use Rattle.symbols.specs.Index.{entries, spellings}
+use Rattle.symbols.specs.Numbers.{St, st, storeAll}
+use Rattle.symbols.specs.Placed.{placed, indexOf}
+use Rattle.symbols.specs.Rows.{spellingsIn}
+use Rattle.symbols.proofs.Owners.{index-written}
+use Rattle.symbols.proofs.ReadBack.{index-read}
+use Rattle.lookups.specs.declared.LookupAnswer.{LookupAnswer}
+use Rattle.lookups.specs.declared.LookupAnswer.the-variants as answer
+use Rattle.lookups.specs.Lookup.{targetOf, lookupAt, lookupOf, indexAt, lookupIndex, Looked}
+
+-- the flows of a story are searched where they stand in the file
+pub function-answer : (c : Sections) (file : List ℕ) (t : Bytes) {r : Bool} → r ≡ any (isFunction t) (flowsIn 0 (take (c .end - c .flows) (drop (c .flows) file)))
+    → r ≡ any (isFunction t) (storyIn c file .flows)
+unfolding storyIn
+function-answer c file t e = flows-answer file t (c .flows) true (c .end) e
+
+module _ (file before : List ℕ) (t : Bytes) {o : Opened} (e : o ≡ readOf file) where
+  pub looked-refused : {r : Refusal} → o ≡ opened.Refused r → Looked file before t (answer.Refused r) before
+  unfolding lookupOf lookupAt lookupIndex indexAt
+  looked-refused q = record { answer = rw (← e, q); index = rw (← e, q) }
+
+  module _ (c : Sections) (q : o ≡ opened.At c) where
+    pub looked-short : length before < 3 * c .end → Looked file before t answer.ShortIndex before
+    unfolding lookupOf lookupAt lookupIndex indexAt
+    looked-short h = record {
+      answer = rw (← e, q, lt-ltb (length before) (3 * c .end) h);
+      index = rw (← e, q, lt-ltb (length before) (3 * c .end) h);
+    }
+
+    -- the index was written, and the target is what its spellings say
+    pub looked-up : {after : List ℕ} {count : ℕ} {r : LookupAnswer} → 3 * c .end ≤ length before
+        → st after count ≡ storeAll (st before 0) (placed (entries (storyIn c file)))
+        → r ≡ targetOf (storyIn c file .flows) (spellingsIn file count after) t → Looked file before t r after
+    unfolding lookupOf lookupAt lookupIndex indexAt
+    looked-up {after} {count} {r} h w a =
+        let good : Readable c file = readable file c e q in
+        let same = w ∙ index-written c file good before h in
+        let left : after ≡ indexOf (storyIn c file) before = ap (λ (s : St). s .index) same in
+        let many : count ≡ length (entries (storyIn c file)) = ap (λ (s : St). s .count) same in
+        let told : r ≡ targetOf (storyIn c file .flows) (spellings (storyIn c file)) t = a ∙ rw (left, many, index-read c file good before) in
+        record {
+          answer = rw (← e, q, le-ltb (length before) (3 * c .end) h) told;
+          index = rw (← e, q, le-ltb (length before) (3 * c .end) h) left;
+        }

@@ -1,0 +1,57 @@
+-- `lookups::lookup` meets its contract: refused, refused for the index, or looked up in the index just written. Assumes nothing.
+use mathlib.Core.Path.{_≡_, sym, _∙_}
+use native.Mathlib.Omega.{arith}
+use Rattle.story.proofs.Readable.{readable}
+use Rattle.lookups.proofs.Answers.{looked-refused, looked-short, looked-up}
+use borrow.Author.Needs.{needs}
+use Rattle.lookups.proofs.lookup.Statement.{statement}
+use Rattle.lookups.proofs.lookup.Tie as tie
+
+read-requires : tie.Need-read-requires
+read-requires c κs = search needs
+
+enum-known-opened : tie.Need-enum-known-opened
+enum-known-opened c = search needs
+
+enum-known-opened-2 : tie.Need-enum-known-opened-2
+enum-known-opened-2 c = search needs
+
+mul-if1 : tie.Need-mul-if1
+mul-if1 c = let g = readable (c .before .before .before .before .before .before .before .before .args .file .now) (c .before .before .opened2 .given .0 .0) (c .before .before .before .before .read .ensures) (c .before .before .opened2 .given .1) .order in omega arith
+
+returns : tie.Need-returns
+returns c = looked-short (c .before .before .before .before .before .before .before .before .before .args .file .now) (c .before .before .before .before .before .before .before .before .before .args .index .now) (c .before .before .before .before .before .before .before .before .before .args .target .now) (c .before .before .before .before .before .read .ensures) (c .before .before .before .opened2 .given .0 .0) (c .before .before .before .opened2 .given .1) (c .if1 .taken)
+
+slice-aggregate-write-index : tie.Need-slice-aggregate-write-index
+slice-aggregate-write-index c = search needs
+
+write-index-requires : tie.Need-write-index-requires
+write-index-requires c κs = (sym (c .before .before .before .before .before .before .before .read .ensures) ∙ c .before .before .before .before .before .opened2 .given .1, search needs)
+
+lookup-target-requires : tie.Need-lookup-target-requires
+lookup-target-requires c κs = readable (c .before .before .before .before .before .before .before .before .before .before .before .before .before .before .before .before .args .file .now) (c .before .before .before .before .before .before .before .before .before .before .opened2 .given .0 .0) (c .before .before .before .before .before .before .before .before .before .before .before .before .read .ensures) (c .before .before .before .before .before .before .before .before .before .before .opened2 .given .1) .order
+
+returns-2 : tie.Need-returns-2
+returns-2 c = looked-refused (c .before .before .before .before .before .before .before .args .file .now) (c .before .before .before .before .before .before .before .args .index .now) (c .before .before .before .before .before .before .before .args .target .now) (c .before .before .before .read .ensures) (c .before .opened .given .1)
+
+same-length : tie.Need-same-length
+same-length c = search needs
+
+returns-3 : tie.Need-returns-3
+returns-3 c = looked-up (c .before .before .before .before .before .before .before .before .before .before .before .before .before .before .before .before .before .args .file .now) (c .before .before .before .before .before .before .before .before .before .before .before .before .before .before .before .before .before .args .index .now) (c .before .before .before .before .before .before .before .before .before .before .before .before .before .before .before .before .before .args .target .now) (c .before .before .before .before .before .before .before .before .before .before .before .before .before .read .ensures) (c .before .before .before .before .before .before .before .before .before .before .before .opened2 .given .0 .0) (c .before .before .before .before .before .before .before .before .before .before .before .opened2 .given .1) (omega (arith, c .before .before .before .before .before .before .before .before .if1 .left)) (c .before .before .before .before .before .write-index .ensures) (c .lookup-target .ensures)
+
+pub lookup-spec : {M : Type 1} → statement M
+lookup-spec =
+    tie.close
+    (tie.spec
+    read-requires
+    enum-known-opened
+    enum-known-opened-2
+    mul-if1
+    returns
+    slice-aggregate-write-index
+    write-index-requires
+    lookup-target-requires
+    returns-2
+    same-length
+    returns-3)

@@ -1,0 +1,59 @@
+-- `lookups::lookup_target` meets its contract, by its tests in the order of preference. Assumes nothing.
+use Rattle.lookups.specs.Lookup.{targetOf}
+use Rattle.lookups.proofs.Answers.{function-answer}
+use borrow.Author.Needs.{needs}
+use Rattle.lookups.proofs.lookup_target.Statement.{statement}
+use Rattle.lookups.proofs.lookup_target.Tie as tie
+
+passes-requires : tie.Need-passes-requires
+passes-requires c κs = search needs
+
+returns : tie.Need-returns
+unfolding targetOf
+returns c = rw (← c .before .passes .ensures, c .if1 .taken)
+
+sub-is-function-name : tie.Need-sub-is-function-name
+sub-is-function-name c = search needs
+
+part-is-function-name-start : tie.Need-part-is-function-name-start
+part-is-function-name-start c = search needs
+
+part-is-function-name-end : tie.Need-part-is-function-name-end
+part-is-function-name-end c = search needs
+
+is-function-name-requires : tie.Need-is-function-name-requires
+is-function-name-requires c κs = search needs
+
+returns-2 : tie.Need-returns-2
+unfolding targetOf
+returns-2 c = rw (← c .before .before .before .before .passes .ensures, c .before .before .before .if1 .left, ← function-answer (c .before .before .before .before .before .before .before .before .args .c) (c .before .before .before .before .before .before .before .before .args .file .now) (c .before .before .before .before .before .before .before .before .args .target .now) (c .before .is-function-name .ensures), c .if2 .taken)
+
+is-reserved-requires : tie.Need-is-reserved-requires
+is-reserved-requires c κs = search needs
+
+returns-3 : tie.Need-returns-3
+unfolding targetOf
+returns-3 c = rw (← c .before .before .before .before .before .before .passes .ensures, c .before .before .before .before .before .if1 .left, ← function-answer (c .before .before .before .before .before .before .before .before .before .before .args .c) (c .before .before .before .before .before .before .before .before .before .before .args .file .now) (c .before .before .before .before .before .before .before .before .before .before .args .target .now) (c .before .before .before .is-function-name .ensures), c .before .before .if2 .left, ← c .before .is-reserved .ensures, c .if3 .taken)
+
+lookup-entry-requires : tie.Need-lookup-entry-requires
+lookup-entry-requires c κs = search needs
+
+returns-4 : tie.Need-returns-4
+unfolding targetOf
+returns-4 c = rw (← c .before .before .before .before .before .before .before .passes .ensures, c .before .before .before .before .before .before .if1 .left, ← function-answer (c .before .before .before .before .before .before .before .before .before .before .before .args .c) (c .before .before .before .before .before .before .before .before .before .before .before .args .file .now) (c .before .before .before .before .before .before .before .before .before .before .before .args .target .now) (c .before .before .before .before .is-function-name .ensures), c .before .before .before .if2 .left, ← c .before .before .is-reserved .ensures, c .before .if3 .left) (c .lookup-entry .ensures)
+
+pub lookup-target-spec : {M : Type 1} → statement M
+lookup-target-spec =
+    tie.close
+    (tie.spec
+    passes-requires
+    returns
+    sub-is-function-name
+    part-is-function-name-start
+    part-is-function-name-end
+    is-function-name-requires
+    returns-2
+    is-reserved-requires
+    returns-3
+    lookup-entry-requires
+    returns-4)

@@ -1,0 +1,62 @@
+-- What a lookup answers, and what it leaves in the index. Assumes nothing.
+use mathlib.Core.Path.{_≡_}
+use mathlib.Core.List.{List, [], _∷_}
+use Prim.Native.Nat.{ℕ, _*_}
+use lib.ListN.{length}
+use lib.Dec.{ltb}
+use Rattle.fields.specs.Bytes.{pick}
+use Rattle.names.specs.Words.{Bytes, same, any, one-of, ends}
+use Rattle.names.specs.Reserved.{END, DONE, back}
+use Rattle.names.specs.Targets.{passes}
+use Rattle.story.specs.Story.{Flow, Story}
+use Rattle.story.specs.declared.Opened.{Opened}
+use Rattle.story.specs.declared.Opened.the-variants as opened
+use Rattle.story.specs.File.{readOf, storyIn}
+use Rattle.searches.specs.Called.{isFunction}
+use Rattle.symbols.specs.declared.Found.{Found}
+use Rattle.symbols.specs.declared.Found.the-variants as found
+use Rattle.symbols.specs.Index.{spellings}
+use Rattle.symbols.specs.Placed.{indexOf}
+use Rattle.symbols.specs.Rows.{firstOf}
+use Rattle.lookups.specs.declared.LookupAnswer.{LookupAnswer}
+use Rattle.lookups.specs.declared.LookupAnswer.the-variants as answer
+
+-- an entry by its whole spelling, else by its ending
+unfoldable pub endingOf : Found → LookupAnswer
+endingOf (found.At k) = answer.Ending k
+endingOf found.Nowhere = answer.Missing
+
+unfoldable pub entryOf : Found → Found → LookupAnswer
+entryOf (found.At k) other = answer.Exact k
+entryOf found.Nowhere other = endingOf other
+
+-- Pass, Function, Reserved, Exact, Ending, Missing, in that order of preference; of several entries the first
+unfoldable pub targetOf : List Flow → List Bytes → Bytes → LookupAnswer
+targetOf flows spelled t =
+    pick (passes t) answer.Pass
+    (pick (any (isFunction t) flows) answer.Function
+    (pick (one-of t (END ∷ DONE ∷ back ∷ [])) answer.Reserved
+    (entryOf (firstOf (same t) 0 spelled) (firstOf (ends (46 ∷ t)) 0 spelled))))
+
+-- by how reading ended, and whether the index is long enough
+unfoldable pub lookupAt : Opened → List ℕ → ℕ → Bytes → LookupAnswer
+lookupAt (opened.Refused r) file room t = answer.Refused r
+lookupAt (opened.At c) file room t =
+    pick (ltb room (3 * c .end)) answer.ShortIndex (targetOf (storyIn c file .flows) (spellings (storyIn c file)) t)
+
+-- THE ANSWER, for a file, so many numbers of room in the index, and a target
+unfoldable pub lookupOf : List ℕ → ℕ → Bytes → LookupAnswer
+lookupOf file room t = lookupAt (readOf file) file room t
+
+-- a refusal leaves the index as it was
+unfoldable pub indexAt : Opened → List ℕ → List ℕ → List ℕ
+indexAt (opened.Refused r) file before = before
+indexAt (opened.At c) file before = pick (ltb (length before) (3 * c .end)) before (indexOf (storyIn c file) before)
+
+-- THE INDEX afterwards
+unfoldable pub lookupIndex : List ℕ → List ℕ → List ℕ
+lookupIndex file before = indexAt (readOf file) file before
+
+pub record Looked (file before target : List ℕ) (r : LookupAnswer) (after : List ℕ) : Type 0 where
+  pub answer : r ≡ lookupOf file (length before) target
+  pub index : after ≡ lookupIndex file before

@@ -1,0 +1,90 @@
+// A target looked up in a story file, without regard to where a divert stands.
+ghost use mathlib.Core.Path.{_≡_};
+ghost use mathlib.Core.List.{_∷_};
+ghost use Prim.Native.Nat.{_≤_};
+ghost use lib.ListN.{length};
+ghost use Rattle.names.specs.Words.{same, ends};
+ghost use Rattle.story.specs.File.{storyIn, InOrder};
+ghost use Rattle.symbols.specs.Rows.{spellingsIn, firstOf};
+ghost use Rattle.lookups.specs.Lookup.{entryOf, targetOf, Looked};
+use fields::Refusal;
+use names::is_reserved;
+use names::passes;
+use searches::is_function_name;
+use story::Opened;
+use story::Sections;
+use story::read;
+use symbols::Found;
+use symbols::entries::write_index;
+use symbols::targets::find_ending;
+use symbols::targets::find_exact;
+
+// The reader's refusal, refusal 7, or what the target is: an entry is named by its number in the index, from 0.
+pub enum LookupAnswer {
+    Refused(Refusal),
+    ShortIndex,
+    Pass,
+    Function,
+    Reserved,
+    Exact(usize),
+    Ending(usize),
+    Missing,
+}
+
+// The first of so many entries that is spelled as the target, else the first that ends in "." and the target.
+fn lookup_entry(file: &[u8], index: &[u32], count: usize, target: &[u8]) -> LookupAnswer
+    ensures { λ r. ⌜ r ≡ entryOf (firstOf (same (now (target .entry))) 0 (spellingsIn (now (file .entry)) count (now (index .entry)))) (firstOf (ends (46 ∷ now (target .entry))) 0 (spellingsIn (now (file .entry)) count (now (index .entry)))) ⌝ }
+{
+    let exact = find_exact(file, index, count, target);
+    if let Found::At(k) = exact {
+        return LookupAnswer::Exact(k);
+    }
+    let ending = find_ending(file, index, count, target);
+    if let Found::At(k) = ending {
+        return LookupAnswer::Ending(k);
+    }
+    LookupAnswer::Missing
+}
+
+// What the target is in a file with these sections, whose index has so many entries.
+fn lookup_target(
+    file: &[u8],
+    c: Sections,
+    index: &[u32],
+    count: usize,
+    target: &[u8],
+) -> LookupAnswer
+    requires { ⌜ InOrder c (now file) ⌝ }
+    ensures { λ r. ⌜ r ≡ targetOf (storyIn c (now (file .entry)) .flows) (spellingsIn (now (file .entry)) count (now (index .entry))) (now (target .entry)) ⌝ }
+{
+    if passes(target) {
+        return LookupAnswer::Pass;
+    }
+    let flows = c.flows;
+    let end = c.end;
+    if is_function_name(&file[flows..end], target) {
+        return LookupAnswer::Function;
+    }
+    if is_reserved(target) {
+        return LookupAnswer::Reserved;
+    }
+    lookup_entry(file, index, count, target)
+}
+
+// Looks the target up: reads the file, writes the index as a check does, and finds what the target is.
+pub fn lookup(file: &[u8], index: &mut [u32], target: &[u8]) -> LookupAnswer
+    ensures { λ r. ⌜ Looked (now (file .entry)) (now (index .entry)) (now (target .entry)) r (now (index .exit)) ⌝ }
+{
+    let opened = read(file);
+    match opened {
+        Opened::Refused(r) => LookupAnswer::Refused(r),
+        Opened::At(c) => {
+            if index.len() < 3 * c.end {
+                return LookupAnswer::ShortIndex;
+            }
+            let mut batch = [0u32; 1024];
+            let count = write_index(file, c, index, &mut batch);
+            lookup_target(file, c, index, count, target)
+        }
+    }
+}

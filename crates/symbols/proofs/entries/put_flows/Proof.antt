@@ -1,0 +1,90 @@
+-- `symbols::entries::put_flows` meets its contract. The loop's invariant: what is left to be stored are the flows from `at` on,
+-- and they can be read. Assumes nothing.
+use mathlib.Core.Path.{_≡_, ap, refl, _∙_}
+use Prim.Native.Nat.{_≤_, _-_}
+use native.Mathlib.Omega.{arith}
+use lib.ListN.{length}
+use Rattle.names.specs.Words.{each}
+use Rattle.records.specs.Trace.{well, ends}
+use Rattle.story.specs.Flows.{part, flows, flowsIn}
+use Rattle.searches.proofs.Viewed.{flow-viewed, flow-laid}
+use Rattle.searches.proofs.Readable.{no-flow, flow-readable}
+use Rattle.symbols.specs.Index.{flowEntries}
+use Rattle.symbols.specs.Placed.{placed}
+use Rattle.symbols.proofs.Stored.{Storing, storing-start, storing-end, storing-many}
+use Rattle.symbols.proofs.Placed.{flows-none, flows-next}
+use borrow.Author.Needs.{needs}
+use Rattle.symbols.proofs.entries.put_flows.Statement.{statement}
+use Rattle.symbols.proofs.entries.put_flows.Tie as tie
+
+abbrev Inv-loop : tie.InvT-loop
+Inv-loop file from end index₀ n batch₀ at₀ count₀ index batch at count =
+    ((at ≤ end) × (length index ≡ length index₀) × (length batch ≡ length batch₀))
+    × (ends (flows (part at end file)) ≡ well)
+    × Storing index₀ n (placed (each flowEntries (flowsIn from (part from end file)))) index count (placed (each flowEntries (flowsIn at (part at end file))))
+
+abbrev μ-loop : tie.MeasureT-loop
+μ-loop file from end index₀ n batch₀ at₀ count₀ index batch at count = end - at
+
+loop-holds : tie.Need-loop-holds Inv-loop μ-loop
+loop-holds c = ((c .before .before .before .pre .0 .ordered, refl, refl), c .before .before .before .pre .1 .0, storing-start)
+
+flow-view-requires : tie.Need-flow-view-requires Inv-loop μ-loop
+flow-view-requires c κs = (c .loop .inv .0 .0, c .before .before .before .before .pre .0 .within)
+
+enum-known-v : tie.Need-enum-known-v Inv-loop μ-loop
+enum-known-v c = search needs
+
+enum-told : tie.Need-enum-told Inv-loop μ-loop
+enum-told c = search needs
+
+same-length : tie.Need-same-length Inv-loop μ-loop
+same-length c = search needs
+
+same-length-2 : tie.Need-same-length-2 Inv-loop μ-loop
+same-length-2 c = search needs
+
+returns : tie.Need-returns Inv-loop μ-loop
+returns c = storing-end (c .before .before .before .loop .inv .2) (flows-none (no-flow (c .before .before .before .before .before .before .before .args .file .now) (c .before .before .before .loop .at) (c .before .before .before .before .before .before .before .args .end) (c .before .before .before .loop .inv .1) (c .before .before .flow-view .ensures) (c .enum-told .given .1)))
+
+put-flow-requires : tie.Need-put-flow-requires Inv-loop μ-loop
+put-flow-requires c κs =
+    let l = flow-laid (c .before .before .before .before .before .before .before .before .before .before .args .file .now) (c .before .before .before .before .before .before .loop .at) (c .before .before .before .before .before .before .before .before .before .before .args .end) (c .before .before .before .v .given .0 .0) (c .before .before .before .before .before .flow-view .ensures) (c .before .before .before .v .given .1) in (
+      (
+        l .name,
+        omega arith,
+        record { ordered = l .from; within = omega (arith, c .before .before .before .before .before .before .before .before .before .before .pre .0 .within); short = c .before .before .before .before .before .before .before .before .before .before .pre .0 .short },
+        record { ordered = l .stitches; within = omega (arith, c .before .before .before .before .before .before .before .before .before .before .pre .0 .within); short = c .before .before .before .before .before .before .before .before .before .before .pre .0 .short },
+      ),
+      (flow-readable (c .before .before .before .before .before .before .before .before .before .before .args .file .now) (c .before .before .before .before .before .before .loop .at) (c .before .before .before .before .before .before .before .before .before .before .args .end) (c .before .before .before .before .before .before .loop .inv .1) (c .before .before .before .before .before .flow-view .ensures) (c .before .before .before .v .given .0 .0) (c .before .before .before .v .given .1) .own, omega (arith, c .before .before .before .before .before .before .loop .inv .0, c .before .before .before .before .before .before .before .before .before .before .pre .1 .1)),
+    )
+
+loop-less : tie.Need-loop-less Inv-loop μ-loop
+loop-less c = let l = flow-laid (c .before .before .before .before .before .before .before .before .before .before .before .before .before .before .before .args .file .now) (c .before .before .before .before .before .before .before .before .before .before .before .loop .at) (c .before .before .before .before .before .before .before .before .before .before .before .before .before .before .before .args .end) (c .before .before .before .before .before .before .before .before .v .given .0 .0) (c .before .before .before .before .before .before .before .before .before .before .flow-view .ensures) (c .before .before .before .before .before .before .before .before .v .given .1) in omega (arith, c .before .before .before .before .before .before .before .before .before .before .before .loop .inv .0)
+
+loop-again : tie.Need-loop-again Inv-loop μ-loop
+loop-again c =
+    let l = flow-laid (c .before .before .before .before .before .before .before .before .before .before .before .before .before .before .before .args .file .now) (c .before .before .before .before .before .before .before .before .before .before .before .loop .at) (c .before .before .before .before .before .before .before .before .before .before .before .before .before .before .before .args .end) (c .before .before .before .before .before .before .before .before .v .given .0 .0) (c .before .before .before .before .before .before .before .before .before .before .flow-view .ensures) (c .before .before .before .before .before .before .before .before .v .given .1) in (
+      omega (arith, c .before .before .before .before .before .before .before .before .before .before .before .loop .inv .0),
+      flow-readable (c .before .before .before .before .before .before .before .before .before .before .before .before .before .before .before .args .file .now) (c .before .before .before .before .before .before .before .before .before .before .before .loop .at) (c .before .before .before .before .before .before .before .before .before .before .before .before .before .before .before .args .end) (c .before .before .before .before .before .before .before .before .before .before .before .loop .inv .1) (c .before .before .before .before .before .before .before .before .before .before .flow-view .ensures) (c .before .before .before .before .before .before .before .before .v .given .0 .0) (c .before .before .before .before .before .before .before .before .v .given .1) .rest,
+      storing-many (c .before .before .before .before .before .before .before .before .before .before .before .loop .inv .2) _
+          (flows-next (flow-viewed (c .before .before .before .before .before .before .before .before .before .before .before .before .before .before .before .args .file .now) (c .before .before .before .before .before .before .before .before .before .before .before .loop .at) (c .before .before .before .before .before .before .before .before .before .before .before .before .before .before .before .args .end) (c .before .before .before .before .before .before .before .before .v .given .0 .0) (c .before .before .before .before .before .before .before .before .before .before .flow-view .ensures) (c .before .before .before .before .before .before .before .before .v .given .1)))
+          (c .before .before .before .before .put-flow .ensures),
+    )
+
+pub put-flows-spec : {M : Type 1} → statement M
+put-flows-spec =
+    tie.close
+    (tie.spec
+    Inv-loop
+    μ-loop
+    loop-holds
+    flow-view-requires
+    enum-known-v
+    enum-told
+    same-length
+    same-length-2
+    returns
+    put-flow-requires
+    loop-less
+    loop-again)

@@ -1,0 +1,39 @@
+-- `symbols::entries::put_stitch` meets its contract: its three parts are stored in order. Assumes nothing.
+use Rattle.searches.specs.Views.{viewedStitch}
+use Rattle.symbols.proofs.Placed.{stitch-stored}
+use borrow.Author.Needs.{needs}
+use Rattle.symbols.proofs.entries.put_stitch.Statement.{statement}
+use Rattle.symbols.proofs.entries.put_stitch.Tie as tie
+
+cast-name : tie.Need-cast-name
+cast-name c = search needs
+
+put-entry-requires : tie.Need-put-entry-requires
+put-entry-requires c κs = search needs
+
+put-params-requires : tie.Need-put-params-requires
+put-params-requires c κs = search needs
+
+collect-labels-from-nodes-requires : tie.Need-collect-labels-from-nodes-requires
+collect-labels-from-nodes-requires c κs = search needs
+
+same-length : tie.Need-same-length
+same-length c = search needs
+
+same-length-2 : tie.Need-same-length-2
+same-length-2 c = search needs
+
+returns : tie.Need-returns
+returns c = stitch-stored _ (c .before .before .before .before .before .before .before .before .before .before .before .before .before .before .before .before .before .before .before .args .flow) (viewedStitch (c .before .before .before .before .before .before .before .before .before .before .before .before .before .before .before .before .before .before .before .args .file .now) (c .before .before .before .before .before .before .before .before .before .before .before .before .before .before .before .before .before .before .before .args .v)) (c .before .before .before .before .before .before .before .before .before .before .before .before .before .put-entry .ensures) (c .before .before .before .before .before .before .before .before .before .put-params .ensures) (c .before .before .before .before .collect-labels-from-nodes .ensures)
+
+pub put-stitch-spec : {M : Type 1} → statement M
+put-stitch-spec =
+    tie.close
+    (tie.spec
+    cast-name
+    put-entry-requires
+    put-params-requires
+    collect-labels-from-nodes-requires
+    same-length
+    same-length-2
+    returns)

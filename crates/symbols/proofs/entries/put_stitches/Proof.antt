@@ -1,0 +1,88 @@
+-- `symbols::entries::put_stitches` meets its contract. The loop's invariant: what is left to be stored are the stitches from `at` on,
+-- and they can be read. Assumes nothing.
+use mathlib.Core.Path.{_≡_, ap, refl}
+use Prim.Native.Nat.{_≤_, _-_}
+use native.Mathlib.Omega.{arith}
+use lib.ListN.{length}
+use Rattle.names.specs.Words.{each}
+use Rattle.records.specs.Trace.{well, ends}
+use Rattle.records.specs.Grammar.{repeat}
+use Rattle.story.specs.Flows.{part, piece, stitch, piecesIn, stitchIn}
+use Rattle.searches.proofs.Viewed.{stitch-viewed, stitch-laid}
+use Rattle.searches.proofs.Readable.{no-stitch, stitch-readable}
+use Rattle.symbols.specs.Placed.{stitchPlaced}
+use Rattle.symbols.proofs.Stored.{Storing, storing-start, storing-end, storing-many}
+use borrow.Author.Needs.{needs}
+use Rattle.symbols.proofs.entries.put_stitches.Statement.{statement}
+use Rattle.symbols.proofs.entries.put_stitches.Tie as tie
+
+abbrev Inv-loop : tie.InvT-loop
+Inv-loop file from end flow index₀ n batch₀ at₀ count₀ index batch at count =
+    ((at ≤ end) × (length index ≡ length index₀) × (length batch ≡ length batch₀))
+    × (ends (repeat (piece stitch) (part at end file)) ≡ well)
+    × Storing index₀ n (each (stitchPlaced flow) (piecesIn stitchIn from (part from end file))) index count (each (stitchPlaced flow) (piecesIn stitchIn at (part at end file)))
+
+abbrev μ-loop : tie.MeasureT-loop
+μ-loop file from end flow index₀ n batch₀ at₀ count₀ index batch at count = end - at
+
+loop-holds : tie.Need-loop-holds Inv-loop μ-loop
+loop-holds c = ((c .before .before .before .pre .0 .ordered, refl, refl), c .before .before .before .pre .1 .0, storing-start)
+
+stitch-view-requires : tie.Need-stitch-view-requires Inv-loop μ-loop
+stitch-view-requires c κs = (c .loop .inv .0 .0, c .before .before .before .before .pre .0 .within)
+
+enum-known-v : tie.Need-enum-known-v Inv-loop μ-loop
+enum-known-v c = search needs
+
+enum-told : tie.Need-enum-told Inv-loop μ-loop
+enum-told c = search needs
+
+same-length : tie.Need-same-length Inv-loop μ-loop
+same-length c = search needs
+
+same-length-2 : tie.Need-same-length-2 Inv-loop μ-loop
+same-length-2 c = search needs
+
+returns : tie.Need-returns Inv-loop μ-loop
+returns c = storing-end (c .before .before .before .loop .inv .2) (ap (each (stitchPlaced (c .before .before .before .before .before .before .before .args .flow))) (no-stitch (c .before .before .before .before .before .before .before .args .file .now) (c .before .before .before .loop .at) (c .before .before .before .before .before .before .before .args .end) (c .before .before .before .loop .inv .1) (c .before .before .stitch-view .ensures) (c .enum-told .given .1)))
+
+put-stitch-requires : tie.Need-put-stitch-requires Inv-loop μ-loop
+put-stitch-requires c κs =
+    let l = stitch-laid (c .before .before .before .before .before .before .before .before .before .before .args .file .now) (c .before .before .before .before .before .before .loop .at) (c .before .before .before .before .before .before .before .before .before .before .args .end) (c .before .before .before .v .given .0 .0) (c .before .before .before .before .before .stitch-view .ensures) (c .before .before .before .v .given .1) in (
+      (
+        l .name,
+        omega arith,
+        record { ordered = l .from; within = omega (arith, c .before .before .before .before .before .before .before .before .before .before .pre .0 .within); short = c .before .before .before .before .before .before .before .before .before .before .pre .0 .short },
+      ),
+      omega (arith, c .before .before .before .before .before .before .loop .inv .0, c .before .before .before .before .before .before .before .before .before .before .pre .1 .1),
+    )
+
+loop-less : tie.Need-loop-less Inv-loop μ-loop
+loop-less c = let l = stitch-laid (c .before .before .before .before .before .before .before .before .before .before .before .before .before .before .before .args .file .now) (c .before .before .before .before .before .before .before .before .before .before .before .loop .at) (c .before .before .before .before .before .before .before .before .before .before .before .before .before .before .before .args .end) (c .before .before .before .before .before .before .before .before .v .given .0 .0) (c .before .before .before .before .before .before .before .before .before .before .stitch-view .ensures) (c .before .before .before .before .before .before .before .before .v .given .1) in omega (arith, c .before .before .before .before .before .before .before .before .before .before .before .loop .inv .0)
+
+loop-again : tie.Need-loop-again Inv-loop μ-loop
+loop-again c =
+    let l = stitch-laid (c .before .before .before .before .before .before .before .before .before .before .before .before .before .before .before .args .file .now) (c .before .before .before .before .before .before .before .before .before .before .before .loop .at) (c .before .before .before .before .before .before .before .before .before .before .before .before .before .before .before .args .end) (c .before .before .before .before .before .before .before .before .v .given .0 .0) (c .before .before .before .before .before .before .before .before .before .before .stitch-view .ensures) (c .before .before .before .before .before .before .before .before .v .given .1) in (
+      omega (arith, c .before .before .before .before .before .before .before .before .before .before .before .loop .inv .0),
+      stitch-readable (c .before .before .before .before .before .before .before .before .before .before .before .before .before .before .before .args .file .now) (c .before .before .before .before .before .before .before .before .before .before .before .loop .at) (c .before .before .before .before .before .before .before .before .before .before .before .before .before .before .before .args .end) (c .before .before .before .before .before .before .before .before .before .before .before .loop .inv .1) (c .before .before .before .before .before .before .before .before .before .before .stitch-view .ensures) (c .before .before .before .before .before .before .before .before .v .given .0 .0) (c .before .before .before .before .before .before .before .before .v .given .1) .rest,
+      storing-many (c .before .before .before .before .before .before .before .before .before .before .before .loop .inv .2) _
+          (ap (each (stitchPlaced (c .before .before .before .before .before .before .before .before .before .before .before .before .before .before .before .args .flow))) (stitch-viewed (c .before .before .before .before .before .before .before .before .before .before .before .before .before .before .before .args .file .now) (c .before .before .before .before .before .before .before .before .before .before .before .loop .at) (c .before .before .before .before .before .before .before .before .before .before .before .before .before .before .before .args .end) (c .before .before .before .before .before .before .before .before .v .given .0 .0) (c .before .before .before .before .before .before .before .before .before .before .stitch-view .ensures) (c .before .before .before .before .before .before .before .before .v .given .1)))
+          (c .before .before .before .before .put-stitch .ensures),
+    )
+
+pub put-stitches-spec : {M : Type 1} → statement M
+put-stitches-spec =
+    tie.close
+    (tie.spec
+    Inv-loop
+    μ-loop
+    loop-holds
+    stitch-view-requires
+    enum-known-v
+    enum-told
+    same-length
+    same-length-2
+    returns
+    put-stitch-requires
+    loop-less
+    loop-again)
