@@ -5,7 +5,7 @@ ghost use lib.ListN.{length};
 ghost use Rattle.messages.specs.Messages.{around, aroundBoth, Wrote, Message};
 
 // Writes the bytes of a piece from `at` on, and answers where they end.
-fn put(out: &mut [u8], at: usize, piece: &[u8]) -> usize
+pub fn put(out: &mut [u8], at: usize, piece: &[u8]) -> usize
     requires { ⌜ at + length (now piece) ≤ length (now out) ⌝ }
     ensures { λ r. ⌜ Wrote (now (out .entry)) at (now (piece .entry)) (now (out .exit)) r ⌝ }
 {

@@ -1,11 +1,11 @@
--- Demand 3 for files, from what a reader supplies: `file-demand3`; and no breach is listed twice: `file-once`. Assumes nothing.
+-- Demand 3 for files, from what a reader supplies: its verdicts, its order law, and that no breach is listed twice. Assumes nothing.
 use mathlib.Core.Path.{_≡_, refl, sym, _∙_, ap, ap₂, subst, subst₂}
 use mathlib.Core.List.{List, [], _∷_, _++_, map, map-append, nil≢cons}
 use mathlib.Core.Logic.{_↔_}
 use mathlib.Core.Option.{none}
 use Prim.Native.Nat.{ℕ}
 use Rattle.names.specs.Words.{Sorted}
-use Rattle.story.specs.Story.{Stitch, Flow, Story, words, whats}
+use Rattle.story.specs.Story.{Stitch, Flow, Story}
 use Rattle.rules.specs.Steps.{Breach, breaches, verdict}
 use Rattle.rules.specs.Alike.{EquallyOften, Paired, AlikeStitch, AlikeFlow, Alike}
 use Rattle.rules.specs.Files.{FlowBytes, FileBytes, AlikeFlowBytes, AlikeFiles, UnplacedStitch, UnplacedFlow, UnplacedStory, unplacedStitch, unplacedFlow, unplaced, Reading, flowRead, fileRead, Supplied}
@@ -117,22 +117,15 @@ module _ (r : Reading) where
         (paired-map AlikeFlowBytes AlikeOwn (flowRead r) read-flow (a .flows) (b .flows) (h .flows))));
   }
 
--- DEMAND 3 for files
-pub record FileDemand3 (readable : List ℕ → Type 0) (storyOf : List ℕ → Story) (partsOf : List ℕ → FileBytes) : Type 0 where
-  -- accepted exactly when no breach stands; else a breach that stands, and every other that stands is later
-  pub verdicts : (file : List ℕ) → readable file → Least (storyOf file)
-  -- alike in all but order: both accepted or both in breach
-  pub order : (a b : List ℕ) → readable a → readable b → AlikeFiles (partsOf a) (partsOf b) → (verdict (storyOf a) ≡ none) ↔ (verdict (storyOf b) ≡ none)
+-- 4. For readable files
 
-pub file-demand3 : {readable : List ℕ → Type 0} {storyOf : List ℕ → Story} {partsOf : List ℕ → FileBytes} {r : Reading}
-    → Supplied readable storyOf partsOf r → FileDemand3 readable storyOf partsOf
-file-demand3 {storyOf = storyOf} {partsOf = partsOf} {r = r} h = record {
-  verdicts = λ file i. demand3 .verdicts (storyOf file) (h .placed file i);
-  order = λ a b i j k. demand3 .order (storyOf a) (storyOf b)
-      (alike-read r (partsOf a) (partsOf b) (storyOf a) (storyOf b) (h .read a i) (h .read b j) k);
-}
+module _ {readable : List ℕ → Type 0} {storyOf : List ℕ → Story} {partsOf : List ℕ → FileBytes} {r : Reading} (h : Supplied readable storyOf partsOf r) where
+  pub file-least : (file : List ℕ) → readable file → Least (storyOf file)
+  file-least file i = demand3 .verdicts (storyOf file) (h .placed file i)
 
--- each breach of a readable file is listed one time
-pub file-once : {readable : List ℕ → Type 0} {storyOf : List ℕ → Story} {partsOf : List ℕ → FileBytes} {r : Reading}
-    → Supplied readable storyOf partsOf r → (file : List ℕ) → readable file → Sorted (λ (b c : Breach). b ≡ c → ⊥) (breaches (storyOf file))
-file-once {storyOf = storyOf} h file i = once (storyOf file) (ordered (storyOf file) (h .placed file i))
+  pub file-order : (a b : List ℕ) → readable a → readable b → AlikeFiles (partsOf a) (partsOf b) → (verdict (storyOf a) ≡ none) ↔ (verdict (storyOf b) ≡ none)
+  file-order a b i j k =
+      demand3 .order (storyOf a) (storyOf b) (alike-read r (partsOf a) (partsOf b) (storyOf a) (storyOf b) (h .read a i) (h .read b j) k)
+
+  pub file-once : (file : List ℕ) → readable file → Sorted (λ (b c : Breach). b ≡ c → ⊥) (breaches (storyOf file))
+  file-once file i = once (storyOf file) (ordered (storyOf file) (h .placed file i))

@@ -11,7 +11,10 @@ pub mod Spellings
 pub mod Order
 pub mod Demand
 pub mod First
-pub mod Shifted
 pub mod Plain
+pub mod Sorts
 pub mod Files
+pub mod Reader
+pub mod FileDemand
 pub mod Examples
+pub mod FileExamples

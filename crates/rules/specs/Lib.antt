@@ -4,3 +4,5 @@ pub mod Meaning
 pub mod Placed
 pub mod Alike
 pub mod Files
+pub mod Reader
+pub mod Sorts
