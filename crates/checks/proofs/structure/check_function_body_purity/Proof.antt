@@ -1,0 +1,32 @@
+-- `check_function_body_purity`: the tests pick rule 13 or 14, and rule 12 is not broken at a record. Assumes nothing.
+use mathlib.Core.Path.{refl}
+use Rattle.checks.proofs.Cases.{picked, passed}
+use Rattle.checks.proofs.Recorded.{purity-at}
+use borrow.Author.Needs.{needs}
+use Rattle.checks.proofs.structure.check_function_body_purity.Statement.{statement}
+use Rattle.checks.proofs.structure.check_function_body_purity.Tie as tie
+
+returns : tie.Need-returns
+returns c k h before = rw (purity-at k h before (c .before .before .before .args .file .now) (c .before .before .before .args .slot)) (picked _ (c .before .is-sort .ensures) (c .if1 .taken) refl)
+
+returns-2 : tie.Need-returns-2
+returns-2 c k h before = rw (purity-at k h before (c .before .before .before .before .before .before .before .before .args .file .now) (c .before .before .before .before .before .before .before .before .args .slot)) (passed _ (c .before .before .before .before .before .before .is-sort .ensures) (c .before .before .before .before .before .if1 .left) (picked _ (c .before .before .before .before .is-sort2 .ensures) (c .before .before .before .if2 .taken) (picked _ (rw (c .before .before .item-name .ensures) at (c .before .is-end-or-done .ensures)) (c .if3 .taken) refl)))
+
+returns-3 : tie.Need-returns-3
+returns-3 c k h before = rw (purity-at k h before (c .before .before .before .before .before .before .before .before .args .file .now) (c .before .before .before .before .before .before .before .before .args .slot)) (passed _ (c .before .before .before .before .before .before .is-sort .ensures) (c .before .before .before .before .before .if1 .left) (picked _ (c .before .before .before .before .is-sort2 .ensures) (c .before .before .before .if2 .taken) (passed _ (rw (c .before .before .item-name .ensures) at (c .before .is-end-or-done .ensures)) (c .if3 .left) refl)))
+
+returns-4 : tie.Need-returns-4
+returns-4 c k h before = rw (purity-at k h before (c .before .before .before .before .before .args .file .now) (c .before .before .before .before .before .args .slot)) (passed _ (c .before .before .before .is-sort .ensures) (c .before .before .if1 .left) (passed _ (c .before .is-sort2 .ensures) (c .if2 .left) refl))
+
+pub check-function-body-purity-spec : {M : Type 1} → statement M
+check-function-body-purity-spec =
+    tie.close
+    (tie.spec
+    (λ c κs. search needs)
+    returns
+    (λ c κs. search needs)
+    (λ c κs. search needs)
+    (λ c κs. search needs)
+    returns-2
+    returns-3
+    returns-4)

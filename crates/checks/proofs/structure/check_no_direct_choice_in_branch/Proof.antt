@@ -1,0 +1,30 @@
+-- `check_no_direct_choice_in_branch`: the tests pick rule 11. Assumes nothing.
+use mathlib.Core.Path.{refl}
+use Rattle.checks.proofs.Cases.{picked, passed, choices-judged}
+use borrow.Author.Needs.{needs}
+use Rattle.checks.proofs.structure.check_no_direct_choice_in_branch.Statement.{statement}
+use Rattle.checks.proofs.structure.check_no_direct_choice_in_branch.Tie as tie
+
+returns : tie.Need-returns
+returns c k h before = rw (choices-judged k h before _) (picked _ (c .before .before .before .before .before .is-sort .ensures) (c .before .before .before .before .if1 .taken) (picked _ (c .before .before .before .in-branch .ensures _ _) (c .before .before .if2 .taken) (picked _ (c .before .choice-has-explicit-divert .ensures) (c .if3 .taken) refl)))
+
+returns-2 : tie.Need-returns-2
+returns-2 c k h before = rw (choices-judged k h before _) (picked _ (c .before .before .before .before .before .is-sort .ensures) (c .before .before .before .before .if1 .taken) (picked _ (c .before .before .before .in-branch .ensures _ _) (c .before .before .if2 .taken) (passed _ (c .before .choice-has-explicit-divert .ensures) (c .if3 .left) refl)))
+
+returns-3 : tie.Need-returns-3
+returns-3 c k h before = rw (choices-judged k h before _) (picked _ (c .before .before .before .is-sort .ensures) (c .before .before .if1 .taken) (passed _ (c .before .in-branch .ensures _ _) (c .if2 .left) refl))
+
+returns-4 : tie.Need-returns-4
+returns-4 c k h before = rw (choices-judged k h before _) (passed _ (c .before .is-sort .ensures) (c .if1 .left) refl)
+
+pub check-no-direct-choice-in-branch-spec : {M : Type 1} → statement M
+check-no-direct-choice-in-branch-spec =
+    tie.close
+    (tie.spec
+    (λ c κs. search needs)
+    (λ c κs. search needs)
+    (λ c κs. search needs)
+    returns
+    returns-2
+    returns-3
+    returns-4)

@@ -1,0 +1,72 @@
+-- Where a step runs, as the code has it, and what holds while the steps run. Assumes nothing.
+use Prim.Native.Nat.{ℕ, _≤_}
+use mathlib.Core.Path.{_≡_}
+use mathlib.Core.Bool.{Bool, true, not, _&&_, _||_}
+use mathlib.Core.List.{List}
+use lib.ListN.{length, drop}
+use Rattle.names.specs.Words.{Bytes, any, one-of}
+use Rattle.records.specs.Trace.{well, ends}
+use Rattle.records.specs.Grammar.{repeat}
+use Rattle.story.specs.declared.Sections.{Sections}
+use Rattle.story.specs.Story.{What, Stitch, words}
+use Rattle.story.specs.Flows.{piece, stitch, part, countedIn, piecesIn, stitchIn}
+use Rattle.story.specs.File.{InOrder, storyIn}
+use Rattle.bodies.specs.Records.{itemFrom}
+use Rattle.bodies.specs.Bodies.{bodyIn, Range}
+use Rattle.bodies.specs.Search.{labelIn, tempIn}
+use Rattle.symbols.specs.Index.{spellings}
+use Rattle.symbols.specs.Rows as rows
+use Rattle.rules.specs.Rules.{Known, Here, known}
+use Rattle.checks.specs.declared.ScopeView.{ScopeView}
+use Rattle.checks.specs.declared.Slot.{Slot}
+
+-- what the item is to the rules
+abbrev pub whatAt : List ℕ → Slot → What
+whatAt file slot = itemFrom file (slot .place) (slot .tag) .what
+
+-- the names of the whole story in the file
+abbrev pub knownIn : Sections → List ℕ → Known
+knownIn c file = known (storyIn c file)
+
+-- a name of those that the count byte at the place counts
+abbrev pub countedAt : List ℕ → ℕ → Bytes → Bool
+countedAt file at n = one-of n (words (countedIn at (drop at file)))
+
+-- a label of a stitch from the place on
+abbrev pub stitchLabel : List ℕ → ℕ → ℕ → Bytes → Bool
+stitchLabel file at end n = any (λ (t : Stitch). labelIn (t .body) n) (piecesIn stitchIn at (part at end file))
+
+-- a parameter or a temp of the flow or the stitch with these parameters and this body
+abbrev pub declaredAt : List ℕ → ℕ → ℕ → ℕ → Bytes → Bool
+declaredAt file params from to n = countedAt file params n || tempIn (bodyIn file from to) n
+
+-- the names of the root, the flow or the stitch at hand
+unfoldable pub hereAt : List ℕ → ScopeView → Here
+hereAt file v = record {
+  param = countedAt file (v .params);
+  mark = countedAt file (v .marks);
+  label = λ n. labelIn (bodyIn file (v .body) (v .stitches)) n || stitchLabel file (v .stitches) (v .end) n;
+  forbidden = λ n. declaredAt file (v .outer) (v .body) (v .stitches) n && not (declaredAt file (v .params) (v .from) (v .to) n);
+  stitched = not (v .inner) && any (λ (t : Stitch). true) (piecesIn stitchIn (v .stitches) (part (v .stitches) (v .end) file));
+}
+
+-- the sections stand in order, and the index's first entries spell the story's names
+pub record Ready (file : List ℕ) (c : Sections) (index : List ℕ) (count : ℕ) : Type 0 where
+  pub sections : InOrder c file
+  pub spelled : rows.spellingsIn file count index ≡ spellings (storyIn c file)
+
+-- the stitches from the place on to the end lie within the file and can be read
+pub record StitchesReady (file : List ℕ) (at end : ℕ) : Type 0 where
+  pub ordered : at ≤ end
+  pub within : end ≤ length file
+  pub short : length file ≤ 1048576
+  pub good : ends (repeat (piece stitch) (part at end file)) ≡ well
+
+-- the parts of the flow or the stitch, and those of its knot, lie within the file, and the stitches can be read
+pub record ScopeReady (file : List ℕ) (v : ScopeView) : Type 0 where
+  pub params : v .params ≤ length file
+  pub marks : v .marks ≤ length file
+  pub body : Range file (v .from) (v .to)
+  pub outer : v .outer ≤ length file
+  pub knot : Range file (v .body) (v .stitches)
+  pub stitches : StitchesReady file (v .stitches) (v .end)

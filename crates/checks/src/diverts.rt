@@ -1,0 +1,131 @@
+// Targets, calls and variable diverts: rules 1, 2, 3, 8 and 9 (diverts.rs).
+ghost use mathlib.Core.Path.{_≡_};
+ghost use mathlib.Core.List.{List};
+ghost use Rattle.story.specs.Story.{What};
+ghost use Rattle.story.specs.File.{InOrder};
+ghost use Rattle.rules.specs.Rules.{Known, Here};
+ghost use Rattle.rules.specs.Steps.{targets, calls, variableDiverts};
+ghost use Rattle.checks.specs.Judged.{judgedBy, targetJudged, callJudged, variableDivertJudged, argumentJudged};
+ghost use Rattle.checks.specs.Context.{Ready, ScopeReady, knownIn, hereAt, whatAt};
+use crate::Judged;
+use crate::ScopeView;
+use crate::Slot;
+use crate::known::is_external;
+use crate::known::is_flow;
+use crate::known::is_function;
+use crate::known::is_target;
+use crate::parameters::is_marked;
+use crate::parameters::is_parameter;
+use crate::structure::has_target;
+use crate::structure::is_sort;
+use bodies::items::ARGUMENT;
+use bodies::items::CALL;
+use bodies::items::item_name;
+use names::is_builtin_function;
+use names::passes;
+use rules::Rule;
+use story::Sections;
+
+// A target: rules 1 and 2.
+fn check_target(file: &[u8], c: Sections, index: &[u32], count: usize, target: &[u8]) -> Judged
+    requires { ⌜ Ready (now file) c (now index) count ⌝ }
+    ensures { λ r. ⌜ r ≡ targetJudged (knownIn c (now (file .entry))) (now (target .entry)) ⌝ }
+{
+    if passes(target) {
+        return Judged::Fine;
+    }
+    if is_function(file, c, target) {
+        return Judged::Broken(Rule::FunctionDivertedTo);
+    }
+    if is_target(file, c, index, count, target) {
+        return Judged::Fine;
+    }
+    Judged::Broken(Rule::TargetNotFound)
+}
+
+// The target of an item, of kinds 3, 4 and 5: rules 1 and 2.
+pub fn validate_node_divert(
+    file: &[u8],
+    c: Sections,
+    index: &[u32],
+    count: usize,
+    slot: Slot,
+) -> Judged
+    requires { ⌜ Ready (now file) c (now index) count ⌝ }
+    ensures { λ r. ⌜ ((h : Here) (before : List What) → r ≡ judgedBy (knownIn c (now (file .entry))) h targets before (whatAt (now (file .entry)) slot)) ⌝ }
+{
+    if has_target(file, slot) {
+        return check_target(file, c, index, count, item_name(file, slot.place, slot.tag));
+    }
+    Judged::Fine
+}
+
+// A call name: rule 3.
+fn check_function_call_target(file: &[u8], c: Sections, name: &[u8]) -> Judged
+    requires { ⌜ InOrder c (now file) ⌝ }
+    ensures { λ r. ⌜ r ≡ callJudged (knownIn c (now (file .entry))) (now (name .entry)) ⌝ }
+{
+    if is_function(file, c, name) {
+        return Judged::Fine;
+    }
+    if is_external(file, c, name) {
+        return Judged::Fine;
+    }
+    if is_builtin_function(name) {
+        return Judged::Fine;
+    }
+    if is_flow(file, c, name) {
+        return Judged::Broken(Rule::FlowCalled);
+    }
+    Judged::Fine
+}
+
+// The call name of an item, of kind 16, condition 1 or expression 5: rule 3.
+pub fn validate_node_function_calls(file: &[u8], c: Sections, slot: Slot) -> Judged
+    requires { ⌜ InOrder c (now file) ⌝ }
+    ensures { λ r. ⌜ ((h : Here) (before : List What) → r ≡ judgedBy (knownIn c (now (file .entry))) h calls before (whatAt (now (file .entry)) slot)) ⌝ }
+{
+    if is_sort(file, slot, CALL) {
+        return check_function_call_target(file, c, item_name(file, slot.place, slot.tag));
+    }
+    Judged::Fine
+}
+
+// A target that may be a parameter: rule 8.
+fn check_variable_divert_target(file: &[u8], scope: ScopeView, target: &[u8]) -> Judged
+    requires { ⌜ ScopeReady (now file) scope ⌝ }
+    ensures { λ r. ⌜ r ≡ variableDivertJudged (hereAt (now (file .entry)) scope) (now (target .entry)) ⌝ }
+{
+    if is_parameter(file, scope, target) {
+        if is_marked(file, scope, target) {
+            return Judged::Fine;
+        }
+        return Judged::Broken(Rule::ParameterUnmarked);
+    }
+    Judged::Fine
+}
+
+// An argument that may be a DivertTarget of a divert parameter: rule 9.
+fn check_divert_target_arg(file: &[u8], scope: ScopeView, name: &[u8]) -> Judged
+    requires { ⌜ ScopeReady (now file) scope ⌝ }
+    ensures { λ r. ⌜ r ≡ argumentJudged (hereAt (now (file .entry)) scope) (now (name .entry)) ⌝ }
+{
+    if is_marked(file, scope, name) {
+        return Judged::Broken(Rule::ParameterAlreadyMarked);
+    }
+    Judged::Fine
+}
+
+// The target or the argument of an item: rules 8 and 9.
+pub fn validate_node_variable_divert_target(file: &[u8], scope: ScopeView, slot: Slot) -> Judged
+    requires { ⌜ ScopeReady (now file) scope ⌝ }
+    ensures { λ r. ⌜ ((k : Known) (before : List What) → r ≡ judgedBy k (hereAt (now (file .entry)) scope) variableDiverts before (whatAt (now (file .entry)) slot)) ⌝ }
+{
+    if has_target(file, slot) {
+        return check_variable_divert_target(file, scope, item_name(file, slot.place, slot.tag));
+    }
+    if is_sort(file, slot, ARGUMENT) {
+        return check_divert_target_arg(file, scope, item_name(file, slot.place, slot.tag));
+    }
+    Judged::Fine
+}

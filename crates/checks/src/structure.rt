@@ -1,0 +1,181 @@
+// Temps, gathers, choices, functions, parameters and stitch names: rules 4 to 7 and 10 to 14 (structure.rs).
+ghost use mathlib.Core.Path.{_≡_};
+ghost use mathlib.Core.List.{List};
+ghost use Prim.Native.Nat.{_≤_};
+ghost use lib.ListN.{length, take};
+ghost use lib.Dec.{eqb};
+ghost use Rattle.story.specs.Story.{What, whats, code};
+ghost use Rattle.story.specs.File.{InOrder};
+ghost use Rattle.rules.specs.Rules.{Known, Here, target};
+ghost use Rattle.rules.specs.Steps.{bracket, Step, temps, gathers, choices};
+ghost use Rattle.bodies.specs.Bodies.{bodyIn, Range};
+ghost use Rattle.checks.specs.Judged.{judgedBy, tempJudged, paramJudged, stitchJudged};
+ghost use Rattle.checks.specs.Context.{ScopeReady, knownIn, hereAt, whatAt};
+use crate::Judged;
+use crate::ScopeView;
+use crate::Slot;
+use crate::known::is_function;
+use crate::known::is_global;
+use crate::labels::is_label;
+use crate::parameters::is_parameter;
+use bodies::items::CHOICE;
+use bodies::items::DIVERT;
+use bodies::items::GATHER;
+use bodies::items::TEMP;
+use bodies::items::THREAD;
+use bodies::items::TUNNEL;
+use bodies::items::choice_has_explicit_divert;
+use bodies::items::in_branch;
+use bodies::items::item_name;
+use bodies::items::sort_at;
+use bodies::searches::has_gather_before;
+use names::is_end_or_done;
+use rules::Rule;
+use story::Sections;
+
+// The item is of the sort.
+pub fn is_sort(file: &[u8], slot: Slot, sort: u8) -> bool
+    ensures { λ r. ⌜ r ≡ eqb sort (code (whatAt (now (file .entry)) slot .kind)) ⌝ }
+{
+    sort == sort_at(file, slot.place, slot.tag)
+}
+
+// The item has a target: it is a divert, a tunnel or a thread.
+pub fn has_target(file: &[u8], slot: Slot) -> bool
+    ensures { λ r. ⌜ r ≡ target (whatAt (now (file .entry)) slot) ⌝ }
+{
+    if is_sort(file, slot, DIVERT) {
+        return true;
+    }
+    if is_sort(file, slot, TUNNEL) {
+        return true;
+    }
+    is_sort(file, slot, THREAD)
+}
+
+// A temp's name: rules 4, 6 and 7.
+fn check_temp_name(
+    file: &[u8],
+    c: Sections,
+    scope: ScopeView,
+    name: &[u8],
+    scratch: &mut [u32],
+) -> Judged
+    requires { ⌜ InOrder c (now file) ⌝ }
+    requires { ⌜ ScopeReady (now file) scope ⌝ }
+    requires { ⌜ 2 ≤ length (now scratch) ⌝ }
+    ensures { λ r. ⌜ r ≡ tempJudged (knownIn c (now (file .entry))) (hereAt (now (file .entry)) scope) (now (name .entry)) ⌝ }
+{
+    if is_function(file, c, name) {
+        return Judged::Broken(Rule::NameIsFunction);
+    }
+    if is_parameter(file, scope, name) {
+        return Judged::Broken(Rule::TempIsParameter);
+    }
+    if is_label(file, scope, name, scratch) {
+        return Judged::Broken(Rule::TempIsLabel);
+    }
+    Judged::Fine
+}
+
+// The name of an item that is a temp: rules 4, 6 and 7.
+pub fn validate_temp_name(
+    file: &[u8],
+    c: Sections,
+    scope: ScopeView,
+    slot: Slot,
+    scratch: &mut [u32],
+) -> Judged
+    requires { ⌜ InOrder c (now file) ⌝ }
+    requires { ⌜ ScopeReady (now file) scope ⌝ }
+    requires { ⌜ 2 ≤ length (now scratch) ⌝ }
+    ensures { λ r. ⌜ ((before : List What) → r ≡ judgedBy (knownIn c (now (file .entry))) (hereAt (now (file .entry)) scope) temps before (whatAt (now (file .entry)) slot)) ⌝ }
+{
+    if is_sort(file, slot, TEMP) {
+        return check_temp_name(
+            file,
+            c,
+            scope,
+            item_name(file, slot.place, slot.tag),
+            scratch,
+        );
+    }
+    Judged::Fine
+}
+
+// The label of an item that is a gather, in the body from..to: rule 10.
+pub fn check_gather_label(
+    file: &[u8],
+    from: usize,
+    to: usize,
+    slot: Slot,
+    scratch: &mut [u32],
+) -> Judged
+    requires { ⌜ Range (now file) from to ⌝ }
+    requires { ⌜ 2 ≤ length (now scratch) ⌝ }
+    ensures { λ r. ⌜ ((k : Known) (h : Here) → r ≡ judgedBy k h gathers (take (slot .number) (whats (bodyIn (now (file .entry)) from to))) (whatAt (now (file .entry)) slot)) ⌝ }
+{
+    if is_sort(file, slot, GATHER) {
+        let name = item_name(file, slot.place, slot.tag);
+        if has_gather_before(file, from, to, slot.number, name, scratch) {
+            return Judged::Broken(Rule::GatherRepeated);
+        }
+    }
+    Judged::Fine
+}
+
+// A choice directly in a branch that does not leave it: rule 11.
+pub fn check_no_direct_choice_in_branch(file: &[u8], slot: Slot) -> Judged
+    ensures { λ r. ⌜ ((k : Known) (h : Here) (before : List What) → r ≡ judgedBy k h choices before (whatAt (now (file .entry)) slot)) ⌝ }
+{
+    if is_sort(file, slot, CHOICE) {
+        if in_branch(slot.tag) {
+            if choice_has_explicit_divert(file, slot.place, slot.tag) {
+                return Judged::Fine;
+            }
+            return Judged::Broken(Rule::ChoiceUndiverted);
+        }
+    }
+    Judged::Fine
+}
+
+// A choice, or a divert to neither END nor DONE, in a function: rules 13 and 14.
+pub fn check_function_body_purity(file: &[u8], slot: Slot) -> Judged
+    ensures { λ r. ⌜ ((k : Known) (h : Here) (before : List What) → r ≡ judgedBy k h (bracket Step.s5) before (whatAt (now (file .entry)) slot)) ⌝ }
+{
+    if is_sort(file, slot, CHOICE) {
+        return Judged::Broken(Rule::FunctionWithChoice);
+    }
+    if is_sort(file, slot, DIVERT) {
+        if is_end_or_done(item_name(file, slot.place, slot.tag)) {
+            return Judged::Fine;
+        }
+        return Judged::Broken(Rule::FunctionWithDivert);
+    }
+    Judged::Fine
+}
+
+// A parameter's name: rules 4 and 5.
+pub fn check_parameter_name(file: &[u8], c: Sections, name: &[u8]) -> Judged
+    requires { ⌜ InOrder c (now file) ⌝ }
+    ensures { λ r. ⌜ r ≡ paramJudged (knownIn c (now (file .entry))) (now (name .entry)) ⌝ }
+{
+    if is_function(file, c, name) {
+        return Judged::Broken(Rule::NameIsFunction);
+    }
+    if is_global(file, c, name) {
+        return Judged::Broken(Rule::NameIsGlobal);
+    }
+    Judged::Fine
+}
+
+// A stitch's name: rule 5.
+pub fn check_stitch_name(file: &[u8], c: Sections, name: &[u8]) -> Judged
+    requires { ⌜ InOrder c (now file) ⌝ }
+    ensures { λ r. ⌜ r ≡ stitchJudged (knownIn c (now (file .entry))) (now (name .entry)) ⌝ }
+{
+    if is_global(file, c, name) {
+        return Judged::Broken(Rule::NameIsGlobal);
+    }
+    Judged::Fine
+}
