@@ -1,0 +1,183 @@
+-- The steps as run, by what the passes and the tests along them find. Assumes nothing.
+use mathlib.Core.Path.{_≡_, refl, sym, ap, _∙_}
+use mathlib.Core.Bool.{Bool, true, false}
+use mathlib.Core.List.{List, [], _∷_, _++_}
+use Prim.Native.Nat.{ℕ}
+use lib.ListN.{length}
+use Rattle.fields.specs.Bytes.{pick}
+use Rattle.names.specs.Words.{any, each}
+use Rattle.story.specs.declared.Sections.{Sections}
+use Rattle.story.specs.Story.{Item, Stitch, Flow, Story, flowStart}
+use Rattle.story.specs.Flows.{countedIn, part, piecesIn, stitchIn}
+use Rattle.story.specs.File.{storyIn}
+use Rattle.searches.specs.declared.views.FlowView.{FlowView}
+use Rattle.searches.specs.declared.views.StitchView.{StitchView}
+use Rattle.searches.specs.Views.{viewedFlow, viewedStitch}
+use Rattle.rules.specs.declared.Rule.the-variants.{FunctionWithStitches}
+use Rattle.rules.specs.Rules.{Known, Here, known, here, Scope, root, knot, stitch}
+use Rattle.rules.specs.Steps.{Step, s1, s5, s6, s12, s19, s20, bracket, gathers, rootSteps, flowSteps, stitchSteps, Run, over, nameItem, paramItems, stitchItems, purityItems, stitchRuns, flowRuns, runs, verdict, namesOf, flowNamed}
+use Rattle.checks.specs.declared.Judged.the-variants as judged
+use Rattle.checks.specs.Context.{knownIn, hereAt}
+use Rattle.context.specs.declared.BreachAt.{BreachAt}
+use Rattle.context.specs.declared.Found.{Found}
+use Rattle.context.specs.declared.Found.the-variants as found
+use Rattle.context.specs.declared.Pass.{Pass}
+use Rattle.context.specs.Found.{breachAt, foundOf, orElse, foundAt, foundAlong, foundIn, foundRuns, rulesOf, passAt, passesFrom, foundPasses}
+use Rattle.context.specs.Scopes.{rootView, knotView, stitchView, FlowReady, passesFound, paramsFound, stitchNameFound, flowStepsRuns}
+use Rattle.context.proofs.Verdict.{or-assoc, verdict-found, runs-append, runs-one}
+use Rattle.context.proofs.Along.{root-along, purity-along}
+use Rattle.context.proofs.Places.{root-here, knot-here, stitch-here}
+
+-- 1. Some steps, then others
+
+module _ (s : Story) (us vs : List Run) where
+  pub runs-found : {r : Found} {b : BreachAt} → r ≡ foundRuns s us → r ≡ found.Breach b → r ≡ foundRuns s (us ++ vs)
+  unfolding orElse
+  runs-found e f = rw (runs-append s us vs, ← e, f)
+
+  pub runs-passed : {q r : Found} → q ≡ foundRuns s us → q ≡ found.Clear → r ≡ foundRuns s vs → r ≡ foundRuns s (us ++ vs)
+  unfolding orElse
+  runs-passed e f g = rw (runs-append s us vs, ← e, f) g
+
+-- the steps of one thing after the other
+module _ {A : Type 0} (s : Story) (f : A → List Run) {ts : List A} where
+  pub each-none : ts ≡ [] → found.Clear ≡ foundRuns s (each f ts)
+  unfolding foundRuns
+  each-none e = rw e
+
+  module _ {t : A} {rest : List A} (e : ts ≡ t ∷ rest) {r : Found} (g : r ≡ foundRuns s (f t)) where
+    pub each-found : {b : BreachAt} → r ≡ found.Breach b → r ≡ foundRuns s (each f ts)
+    each-found h = rw e (runs-found s (f t) (each f rest) g h)
+
+    pub each-passed : r ≡ found.Clear → foundRuns s (each f ts) ≡ foundRuns s (each f rest)
+    unfolding orElse
+    each-passed h = rw (e, runs-append s (f t) (each f rest), ← g, h)
+
+-- 2. Passes are steps
+
+module _ (k : Known) (h : Here) (flow : ℕ) (items : List Item) where
+  pub passes-append : (ps qs : List Pass) → foundPasses k h flow (ps ++ qs) items ≡ orElse (foundPasses k h flow ps items) (foundPasses k h flow qs items)
+  unfolding foundPasses orElse
+  passes-append [] qs = refl
+  passes-append (p ∷ ps) qs =
+      rw (passes-append ps qs) (sym (or-assoc (foundAlong k h flow (rulesOf p) [] items) (foundPasses k h flow ps items) (foundPasses k h flow qs items)))
+
+module _ (s : Story) (scope : Scope) (items : List Item) where
+  flow-passes : foundPasses (known s) (here s scope) (flowNamed scope) (passesFrom 0 5) items ≡ foundRuns s (over scope items flowSteps)
+  unfolding foundPasses passesFrom passAt rulesOf foundRuns foundIn over
+  flow-passes = refl
+
+  stitch-passes : foundPasses (known s) (here s scope) (flowNamed scope) (passesFrom 0 3 ++ passesFrom 4 3) items ≡ foundRuns s (over scope items stitchSteps)
+  unfolding foundPasses passesFrom passAt rulesOf foundRuns foundIn over
+  stitch-passes = refl
+
+  -- steps 19 and 20
+  gather-passes : (step : Step) → gathers ≡ bracket step → foundPasses (known s) (here s scope) (flowNamed scope) (passesFrom 6 1) items ≡ foundRuns s (over scope items (step ∷ []))
+  unfolding foundPasses passesFrom passAt rulesOf foundRuns foundIn over
+  gather-passes step e = rw e
+
+  purity-passes : foundPasses (known s) (here s scope) (flowNamed scope) (passesFrom 7 1) items ≡ foundRuns s (over scope items (s5 ∷ []))
+  unfolding foundPasses passesFrom passAt rulesOf foundRuns foundIn over
+  purity-passes = refl
+
+root-passes : (s : Story) (items : List Item) → foundPasses (known s) (here s root) (flowNamed root) (passesFrom 0 4) items ≡ foundRuns s (over root items rootSteps)
+unfolding foundPasses passesFrom passAt rulesOf foundRuns foundIn over
+root-passes s items = rw (root-along s items)
+
+-- 3. The root
+
+module _ (file : List ℕ) (c : Sections) {r : Found} where
+  pub root-run : r ≡ passesFound file c (rootView c (length file)) (passesFrom 0 4) → r ≡ foundRuns (storyIn c file) (over root (storyIn c file .root) rootSteps)
+  unfolding storyIn
+  root-run e = e ∙ rw (← root-here file c) (root-passes (storyIn c file) (storyIn c file .root))
+
+  pub root-gathers : r ≡ passesFound file c (rootView c (length file)) (passesFrom 6 1) → r ≡ foundRuns (storyIn c file) (over root (storyIn c file .root) (s20 ∷ []))
+  unfolding storyIn
+  root-gathers e = e ∙ rw (← root-here file c) (gather-passes (storyIn c file) root (storyIn c file .root) s20 refl)
+
+-- 4. A flow
+
+module _ (file : List ℕ) (c : Sections) (v : FlowView) (ready : FlowReady file v) {r : Found} where
+  pub flow-run : r ≡ passesFound file c (knotView v) (passesFrom 0 5) → r ≡ foundRuns (storyIn c file) (over (knot (viewedFlow file v)) (viewedFlow file v .body) flowSteps)
+  flow-run e = e ∙ rw (← knot-here file c v ready) (flow-passes (storyIn c file) (knot (viewedFlow file v)) (viewedFlow file v .body))
+
+  pub flow-gathers : r ≡ passesFound file c (knotView v) (passesFrom 6 1) → r ≡ foundRuns (storyIn c file) (over (knot (viewedFlow file v)) (viewedFlow file v .body) (s19 ∷ []))
+  flow-gathers e = e ∙ rw (← knot-here file c v ready) (gather-passes (storyIn c file) (knot (viewedFlow file v)) (viewedFlow file v .body) s19 refl)
+
+  pub params-run : ((h : Here) → r ≡ paramsFound file c h (v .name) (viewedFlow file v .params))
+      → r ≡ foundRuns (storyIn c file) (over (knot (viewedFlow file v)) (paramItems (viewedFlow file v .params)) (s6 ∷ []))
+  unfolding foundIn
+  params-run e = e (here (storyIn c file) (knot (viewedFlow file v))) ∙ sym (runs-one (storyIn c file) (knot (viewedFlow file v)) (paramItems (viewedFlow file v .params)) s6)
+
+-- 5. Step 5: nothing of a flow that is no function; rule 12 where it has stitches; else what its body has
+
+pure-items : (b : Bool) (f : Flow) → b ≡ true → purityItems b f ≡ nameItem flowStart (f .at) (f .name) ∷ f .body
+pure-items b f e = rw e
+
+module _ (file : List ℕ) (c : Sections) (v : FlowView) (ready : FlowReady file v) where
+  pub purity-skipped : v .function ≡ false → found.Clear ≡ foundRuns (storyIn c file) (over (knot (viewedFlow file v)) (purityItems (v .function) (viewedFlow file v)) (s5 ∷ []))
+  unfolding foundRuns foundIn foundAlong over orElse
+  purity-skipped f = rw f
+
+  -- the flow itself, then its body
+  purity-run : v .function ≡ true
+      → foundRuns (storyIn c file) (over (knot (viewedFlow file v)) (purityItems (v .function) (viewedFlow file v)) (s5 ∷ []))
+      ≡ orElse (foundAt (pick (any (λ (t : Stitch). true) (viewedFlow file v .stitches)) (judged.Broken FunctionWithStitches) judged.Fine) (v .name) (nameItem flowStart (v .at) (viewedFlow file v .name)))
+      (foundRuns (storyIn c file) (over (knot (viewedFlow file v)) (viewedFlow file v .body) (s5 ∷ [])))
+  purity-run f =
+      rw (pure-items (v .function) (viewedFlow file v) f, runs-one (storyIn c file) (knot (viewedFlow file v)) (nameItem flowStart (v .at) (viewedFlow file v .name) ∷ viewedFlow file v .body) s5, runs-one (storyIn c file) (knot (viewedFlow file v)) (viewedFlow file v .body) s5)
+      (purity-along (storyIn c file) (knot (viewedFlow file v)) (v .at) (viewedFlow file v .name) (viewedFlow file v .body))
+
+  module _ (f : v .function ≡ true) {t : Bool} (e : t ≡ any (λ (t : Stitch). true) (piecesIn stitchIn (v .stitches) (part (v .stitches) (v .end) file))) where
+    pub purity-stitched : t ≡ true → {b : BreachAt} → b ≡ breachAt FunctionWithStitches (v .at) (namesOf FunctionWithStitches (v .name) (v .name))
+        → found.Breach b ≡ foundRuns (storyIn c file) (over (knot (viewedFlow file v)) (purityItems (v .function) (viewedFlow file v)) (s5 ∷ []))
+    unfolding orElse foundAt
+    purity-stitched g k = sym (purity-run f ∙ rw (← e, g, ← k))
+
+    pub purity-body : t ≡ false → {r : Found} → r ≡ passesFound file c (knotView v) (passesFrom 7 1)
+        → r ≡ foundRuns (storyIn c file) (over (knot (viewedFlow file v)) (purityItems (v .function) (viewedFlow file v)) (s5 ∷ []))
+    unfolding orElse foundAt
+    purity-body g k =
+        sym (purity-run f ∙ rw (← e, g) (sym (k ∙ rw (← knot-here file c v ready) (purity-passes (storyIn c file) (knot (viewedFlow file v)) (viewedFlow file v .body)))))
+
+-- 6. A stitch
+
+module _ (file : List ℕ) (c : Sections) (v : FlowView) (ready : FlowReady file v) (w : StitchView) where
+  pub name-run : {r : Found} → ((h : Here) → r ≡ stitchNameFound file c h (v .name) (w .name))
+      → r ≡ foundRuns (storyIn c file) (over (stitch (viewedFlow file v) (viewedStitch file w)) (stitchItems (viewedStitch file w)) (s12 ∷ []))
+  unfolding foundIn
+  name-run e =
+      e (here (storyIn c file) (stitch (viewedFlow file v) (viewedStitch file w)))
+      ∙ sym (runs-one (storyIn c file) (stitch (viewedFlow file v) (viewedStitch file w)) (stitchItems (viewedStitch file w)) s12)
+
+  -- the passes before variable diverts, and those from them on
+  stitch-run : foundRuns (storyIn c file) (over (stitch (viewedFlow file v) (viewedStitch file w)) (viewedStitch file w .body) stitchSteps)
+      ≡ orElse (passesFound file c (stitchView v w) (passesFrom 0 3)) (passesFound file c (stitchView v w) (passesFrom 4 3))
+  stitch-run =
+      sym (stitch-passes (storyIn c file) (stitch (viewedFlow file v) (viewedStitch file w)) (viewedStitch file w .body))
+      ∙ rw (stitch-here file c v ready w)
+      (passes-append (knownIn c file) (hereAt file (stitchView v w)) (v .name) (viewedStitch file w .body) (passesFrom 0 3) (passesFrom 4 3))
+
+  pub stitch-first : {r : Found} {b : BreachAt} → r ≡ passesFound file c (stitchView v w) (passesFrom 0 3) → r ≡ found.Breach b
+      → r ≡ foundRuns (storyIn c file) (over (stitch (viewedFlow file v) (viewedStitch file w)) (viewedStitch file w .body) stitchSteps)
+  unfolding orElse
+  stitch-first e f = sym (stitch-run ∙ rw (← e, f))
+
+  pub stitch-last : {q r : Found} → q ≡ passesFound file c (stitchView v w) (passesFrom 0 3) → q ≡ found.Clear → r ≡ passesFound file c (stitchView v w) (passesFrom 4 3)
+      → r ≡ foundRuns (storyIn c file) (over (stitch (viewedFlow file v) (viewedStitch file w)) (viewedStitch file w .body) stitchSteps)
+  unfolding orElse
+  stitch-last e f g = sym (stitch-run ∙ rw (← e, f) (sym g))
+
+-- 7. Whole flows, and the story
+
+pub flow-runs : (f : Flow) → flowRuns f ≡ flowStepsRuns f ++ each (stitchRuns f) (f .stitches) ++ over (knot f) (f .body) (s19 ∷ [])
+unfolding flowRuns
+flow-runs f = refl
+
+pub stitch-runs : (f : Flow) (t : Stitch) → stitchRuns f t ≡ over (stitch f t) (stitchItems t) (s12 ∷ []) ++ over (stitch f t) (t .body) stitchSteps
+unfolding stitchRuns
+stitch-runs f t = refl
+
+pub story-runs : (s : Story) → foundOf (verdict s) ≡ foundRuns s (over root (s .root) rootSteps ++ each flowRuns (s .flows) ++ over root (s .root) (s20 ∷ []))
+unfolding runs
+story-runs s = verdict-found s

@@ -1,0 +1,46 @@
+-- `pass_at`: each arm is an entry of the table, and past its end stands the last pass. Assumes nothing.
+use mathlib.Core.Path.{sym}
+use Prim.Native.Nat.{zero-le}
+use lib.ListN.{List·getD-eq-default}
+use Rattle.fields.proofs.Laws.{past}
+use Rattle.context.specs.declared.Pass.the-variants.{Purity}
+use Rattle.context.specs.Found.{passes, passAt}
+use Rattle.context.proofs.passes.pass_at.Statement.{statement}
+use Rattle.context.proofs.passes.pass_at.Tie as tie
+
+returns : tie.Need-returns
+unfolding passAt
+returns c = rw (c .match .keys1)
+
+returns-2 : tie.Need-returns-2
+unfolding passAt
+returns-2 c = rw (c .match .keys2)
+
+returns-3 : tie.Need-returns-3
+unfolding passAt
+returns-3 c = rw (c .match .keys3)
+
+returns-4 : tie.Need-returns-4
+unfolding passAt
+returns-4 c = rw (c .match .keys4)
+
+returns-5 : tie.Need-returns-5
+unfolding passAt
+returns-5 c = rw (c .match .keys5)
+
+returns-6 : tie.Need-returns-6
+unfolding passAt
+returns-6 c = rw (c .match .keys6)
+
+returns-7 : tie.Need-returns-7
+unfolding passAt
+returns-7 c = rw (c .match .keys7)
+
+returns-8 : tie.Need-returns-8
+unfolding passAt
+returns-8 c = let r = c .match .rest in sym (List·getD-eq-default passes Purity {n = c .before .args .number} (past (past (past (past (past (past (past zero-le (r .0 .0 .0 .0 .0 .0 .1)) (r .0 .0 .0 .0 .0 .1)) (r .0 .0 .0 .0 .1)) (r .0 .0 .0 .1)) (r .0 .0 .1)) (r .0 .1)) (r .1)))
+
+pub pass-at-spec : {M : Type 1} → statement M
+pass-at-spec =
+    tie.close
+    (tie.spec returns returns-2 returns-3 returns-4 returns-5 returns-6 returns-7 returns-8)

@@ -1,0 +1,275 @@
+// The twenty steps in order (context.rs).
+ghost use mathlib.Core.Path.{_≡_};
+ghost use Prim.Native.Nat.{_+_, _≤_};
+ghost use lib.ListN.{length};
+ghost use Rattle.names.specs.Words.{each};
+ghost use Rattle.story.specs.File.{storyIn, readOf};
+ghost use Rattle.story.specs.declared.Opened.the-variants as Opened;
+ghost use Rattle.searches.specs.Views.{viewedFlow, viewedStitch};
+ghost use Rattle.rules.specs.Steps.{stitchRuns, flowRuns, verdict};
+ghost use Rattle.checks.specs.Context.{Ready, ScopeReady};
+ghost use Rattle.context.specs.Found.{foundOf, foundRuns, passesFrom};
+ghost use Rattle.context.specs.Scopes.{FlowReady, StitchReady, FlowsReady, passesFound, flowStepsRuns};
+use crate::Found;
+use crate::passes::GATHERS;
+use crate::passes::TEMPS;
+use crate::passes::VARIABLE_DIVERTS;
+use crate::passes::validate_passes;
+use crate::scopes::knot_scope;
+use crate::scopes::root_scope;
+use crate::scopes::stitch_scope;
+use crate::structure::validate_flow_parameter_names;
+use crate::structure::validate_function_purity;
+use crate::structure::validate_stitch_name;
+use bodies::windows::count_items;
+use checks::ScopeView;
+use searches::views::FlowView;
+use searches::views::FlowViewRead;
+use searches::views::StitchView;
+use searches::views::StitchViewRead;
+use searches::views::flow_view;
+use searches::views::stitch_view;
+use story::Sections;
+
+// The first breach of so many passes from the first on, along the body of the root, the flow or the stitch.
+fn validate_body(
+    first: u8,
+    many: u8,
+    file: &[u8],
+    c: Sections,
+    index: &[u32],
+    count: usize,
+    scope: ScopeView,
+    batch: &mut [u32],
+    scratch: &mut [u32],
+) -> Found
+    requires { ⌜ first + many ≤ 8 ⌝ }
+    requires { ⌜ Ready (now file) c (now index) count ⌝ }
+    requires { ⌜ ScopeReady (now file) scope ⌝ }
+    requires { ⌜ (2 ≤ length (now batch)) × (2 ≤ length (now scratch)) ⌝ }
+    ensures { λ r. ⌜ r ≡ passesFound (now (file .entry)) c scope (passesFrom first many) ⌝ }
+{
+    let items = count_items(file, scope.from, scope.to, batch);
+    validate_passes(
+        first,
+        many,
+        file,
+        c,
+        index,
+        count,
+        scope,
+        items,
+        batch,
+        scratch,
+    )
+}
+
+// Steps 5 to 11, of a flow.
+fn validate_flow(
+    file: &[u8],
+    c: Sections,
+    index: &[u32],
+    count: usize,
+    v: FlowView,
+    batch: &mut [u32],
+    scratch: &mut [u32],
+) -> Found
+    requires { ⌜ Ready (now file) c (now index) count ⌝ }
+    requires { ⌜ FlowReady (now file) v ⌝ }
+    requires { ⌜ (2 ≤ length (now batch)) × (2 ≤ length (now scratch)) ⌝ }
+    ensures { λ r. ⌜ r ≡ foundRuns (storyIn c (now (file .entry))) (flowStepsRuns (viewedFlow (now (file .entry)) v)) ⌝ }
+{
+    let scope = knot_scope(v);
+    let items = count_items(file, v.from, v.to, batch);
+    let purity = validate_function_purity(file, c, index, count, v, scope, items, batch, scratch);
+    if let Found::Breach(_) = purity {
+        return purity;
+    }
+    let params = validate_flow_parameter_names(file, c, v.name, v.params);
+    if let Found::Breach(_) = params {
+        return params;
+    }
+    validate_passes(
+        TEMPS,
+        5,
+        file,
+        c,
+        index,
+        count,
+        scope,
+        items,
+        batch,
+        scratch,
+    )
+}
+
+// Steps 12 to 18, of a stitch.
+fn validate_stitch(
+    file: &[u8],
+    c: Sections,
+    index: &[u32],
+    count: usize,
+    v: FlowView,
+    w: StitchView,
+    batch: &mut [u32],
+    scratch: &mut [u32],
+) -> Found
+    requires { ⌜ Ready (now file) c (now index) count ⌝ }
+    requires { ⌜ FlowReady (now file) v ⌝ }
+    requires { ⌜ StitchReady (now file) w ⌝ }
+    requires { ⌜ (2 ≤ length (now batch)) × (2 ≤ length (now scratch)) ⌝ }
+    ensures { λ r. ⌜ r ≡ foundRuns (storyIn c (now (file .entry))) (stitchRuns (viewedFlow (now (file .entry)) v) (viewedStitch (now (file .entry)) w)) ⌝ }
+{
+    let scope = stitch_scope(v, w);
+    let name = validate_stitch_name(file, c, v.name, w.name);
+    if let Found::Breach(_) = name {
+        return name;
+    }
+    let items = count_items(file, w.from, w.to, batch);
+    let first = validate_passes(
+        TEMPS,
+        3,
+        file,
+        c,
+        index,
+        count,
+        scope,
+        items,
+        batch,
+        scratch,
+    );
+    if let Found::Breach(_) = first {
+        return first;
+    }
+    validate_passes(
+        VARIABLE_DIVERTS,
+        3,
+        file,
+        c,
+        index,
+        count,
+        scope,
+        items,
+        batch,
+        scratch,
+    )
+}
+
+// Steps 12 to 18, of the stitches of a flow one after the other.
+fn validate_stitches(
+    file: &[u8],
+    c: Sections,
+    index: &[u32],
+    count: usize,
+    v: FlowView,
+    batch: &mut [u32],
+    scratch: &mut [u32],
+) -> Found
+    requires { ⌜ Ready (now file) c (now index) count ⌝ }
+    requires { ⌜ FlowReady (now file) v ⌝ }
+    requires { ⌜ (2 ≤ length (now batch)) × (2 ≤ length (now scratch)) ⌝ }
+    ensures { λ r. ⌜ r ≡ foundRuns (storyIn c (now (file .entry))) (each (stitchRuns (viewedFlow (now (file .entry)) v)) (viewedFlow (now (file .entry)) v .stitches)) ⌝ }
+{
+    let end = v.end;
+    let mut at = v.stitches;
+    loop {
+        let StitchViewRead::View(w) = stitch_view(file, at, end) else {
+            return Found::Clear;
+        };
+        let found = validate_stitch(file, c, index, count, v, w, batch, scratch);
+        if let Found::Breach(_) = found {
+            return found;
+        }
+        at = w.end;
+    }
+}
+
+// Steps 5 to 19, of a flow and its stitches.
+fn validate_whole_flow(
+    file: &[u8],
+    c: Sections,
+    index: &[u32],
+    count: usize,
+    v: FlowView,
+    batch: &mut [u32],
+    scratch: &mut [u32],
+) -> Found
+    requires { ⌜ Ready (now file) c (now index) count ⌝ }
+    requires { ⌜ FlowReady (now file) v ⌝ }
+    requires { ⌜ (2 ≤ length (now batch)) × (2 ≤ length (now scratch)) ⌝ }
+    ensures { λ r. ⌜ r ≡ foundRuns (storyIn c (now (file .entry))) (flowRuns (viewedFlow (now (file .entry)) v)) ⌝ }
+{
+    let own = validate_flow(file, c, index, count, v, batch, scratch);
+    if let Found::Breach(_) = own {
+        return own;
+    }
+    let stitches = validate_stitches(file, c, index, count, v, batch, scratch);
+    if let Found::Breach(_) = stitches {
+        return stitches;
+    }
+    validate_body(
+        GATHERS,
+        1,
+        file,
+        c,
+        index,
+        count,
+        knot_scope(v),
+        batch,
+        scratch,
+    )
+}
+
+// Steps 5 to 19, of the flows one after the other.
+fn validate_flows(
+    file: &[u8],
+    c: Sections,
+    index: &[u32],
+    count: usize,
+    batch: &mut [u32],
+    scratch: &mut [u32],
+) -> Found
+    requires { ⌜ Ready (now file) c (now index) count ⌝ }
+    requires { ⌜ FlowsReady (now file) (c .flows) (c .end) ⌝ }
+    requires { ⌜ (2 ≤ length (now batch)) × (2 ≤ length (now scratch)) ⌝ }
+    ensures { λ r. ⌜ r ≡ foundRuns (storyIn c (now (file .entry))) (each flowRuns (storyIn c (now (file .entry)) .flows)) ⌝ }
+{
+    let end = c.end;
+    let mut at = c.flows;
+    loop {
+        let FlowViewRead::View(v) = flow_view(file, at, end) else {
+            return Found::Clear;
+        };
+        let found = validate_whole_flow(file, c, index, count, v, batch, scratch);
+        if let Found::Breach(_) = found {
+            return found;
+        }
+        at = v.end;
+    }
+}
+
+// The twenty steps: 1 to 4 at the root, 5 to 19 of each flow, 20 at the root. The first breach, or none.
+pub fn validate_story(
+    file: &[u8],
+    c: Sections,
+    index: &[u32],
+    count: usize,
+    batch: &mut [u32],
+    scratch: &mut [u32],
+) -> Found
+    requires { ⌜ Ready (now file) c (now index) count ⌝ }
+    requires { ⌜ readOf (now file) ≡ Opened.At c ⌝ }
+    requires { ⌜ (2 ≤ length (now batch)) × (2 ≤ length (now scratch)) ⌝ }
+    ensures { λ r. ⌜ r ≡ foundOf (verdict (storyIn c (now (file .entry)))) ⌝ }
+{
+    let scope = root_scope(c, file.len());
+    let root = validate_body(TEMPS, 4, file, c, index, count, scope, batch, scratch);
+    if let Found::Breach(_) = root {
+        return root;
+    }
+    let flows = validate_flows(file, c, index, count, batch, scratch);
+    if let Found::Breach(_) = flows {
+        return flows;
+    }
+    validate_body(GATHERS, 1, file, c, index, count, scope, batch, scratch)
+}

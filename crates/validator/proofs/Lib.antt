@@ -1,0 +1,6 @@
+pub mod Texts
+pub mod Reports
+pub mod Promise
+pub mod Determined
+pub mod Demand
+pub mod Examples

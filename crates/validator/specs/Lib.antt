@@ -1,0 +1,5 @@
+pub mod Results
+pub mod Answers
+pub mod Check
+pub mod Checked
+pub mod Demand

@@ -1,0 +1,115 @@
+// The check of a story file: refusals, index, rules and text.
+ghost use mathlib.Core.Path.{_≡_};
+ghost use Prim.Native.Nat.{_≤_, _*_, _-_};
+ghost use lib.ListN.{length};
+ghost use Rattle.story.specs.declared.Opened.the-variants as Opened;
+ghost use Rattle.story.specs.File.{readOf, storyIn};
+ghost use Rattle.rules.specs.Steps.{verdict};
+ghost use Rattle.validator.specs.Answers.{Told};
+ghost use Rattle.validator.specs.Check.{storyReport, reportAt};
+ghost use Rattle.validator.specs.Checked.{Reported, Checked};
+use context::Found;
+use context::context::validate_story;
+use fields::Refusal;
+use messages::write_message;
+use names::name_at;
+use rules::Rule;
+use story::Opened;
+use story::Sections;
+use story::read;
+use symbols::entries::write_index;
+
+// A breach: the rule, the place, the places of the two names for the text, how many entries the index has, and how long the text is.
+pub struct Breach {
+    pub rule: Rule,
+    pub place: usize,
+    pub first: usize,
+    pub second: usize,
+    pub entries: usize,
+    pub message: usize,
+}
+
+// Accepted, with the number of entries; a breach; the reader's refusal, 1 to 6; refusals 7 and 8.
+pub enum Answer {
+    Accepted(usize),
+    Breached(Breach),
+    Unreadable(Refusal),
+    ShortIndex,
+    ShortMessage,
+}
+
+// Writes the text of a breach, with the names that stand at the two places, and answers the breach.
+fn write_breach(
+    file: &[u8],
+    rule: Rule,
+    place: usize,
+    first: usize,
+    second: usize,
+    entries: usize,
+    message: &mut [u8],
+) -> Answer
+    requires { ⌜ 640 ≤ length (now message) ⌝ }
+    ensures { λ r. ⌜ Told (now (file .entry)) rule place first second entries (now (message .entry)) r (now (message .exit)) ⌝ }
+{
+    let size = write_message(rule, name_at(file, first), name_at(file, second), message);
+    Answer::Breached(Breach {
+        rule,
+        place,
+        first,
+        second,
+        entries,
+        message: size,
+    })
+}
+
+// Writes the index, runs the twenty steps, and answers; where there is a breach, writes its text. Works in the last two buffers.
+fn check_story(
+    file: &[u8],
+    c: Sections,
+    index: &mut [u32],
+    message: &mut [u8],
+    batch: &mut [u32],
+    scratch: &mut [u32],
+) -> Answer
+    requires { ⌜ readOf (now file) ≡ Opened.At c ⌝ }
+    requires { ⌜ (3 * c .end ≤ length (now index)) × (640 ≤ length (now message)) ⌝ }
+    requires { ⌜ (2 ≤ length (now batch)) × (2 ≤ length (now scratch)) ⌝ }
+    ensures { λ r. ⌜ Reported (storyReport (now (file .entry)) (storyIn c (now (file .entry)))) (now (index .entry)) (now (message .entry)) r (now (index .exit)) (now (message .exit)) ⌝ }
+{
+    let entries = write_index(file, c, index, batch);
+    let found = validate_story(file, c, index, entries, batch, scratch);
+    match found {
+        Found::Clear => Answer::Accepted(entries),
+        Found::Breach(b) => {
+            let rule = b.rule;
+            write_breach(file, rule, b.place, b.first, b.second, entries, message)
+        }
+    }
+}
+
+// The check of a readable file: refusals 7 and 8, and then its story.
+fn check_readable(file: &[u8], c: Sections, index: &mut [u32], message: &mut [u8]) -> Answer
+    requires { ⌜ readOf (now file) ≡ Opened.At c ⌝ }
+    ensures { λ r. ⌜ Reported (reportAt (Opened.At c) (now (file .entry)) (length (now (index .entry))) (length (now (message .entry)))) (now (index .entry)) (now (message .entry)) r (now (index .exit)) (now (message .exit)) ⌝ }
+{
+    if index.len() < 3 * c.end {
+        return Answer::ShortIndex;
+    }
+    if message.len() < 640 {
+        return Answer::ShortMessage;
+    }
+    let mut batch = [0u32; 4096];
+    let mut scratch = [0u32; 1024];
+    check_story(file, c, index, message, &mut batch, &mut scratch)
+}
+
+// THE CHECK of a file. The index wants three numbers for each byte before the trailer, the message buffer 640 bytes.
+pub fn check(file: &[u8], index: &mut [u32], message: &mut [u8]) -> Answer
+    ensures { λ r. ⌜ Checked (now (file .entry)) (now (index .entry)) (now (message .entry)) r (now (index .exit)) (now (message .exit)) ⌝ }
+{
+    let opened = read(file);
+    match opened {
+        Opened::Refused(r) => Answer::Unreadable(r),
+        Opened::At(c) => check_readable(file, c, index, message),
+    }
+}
