@@ -5,7 +5,7 @@ use std::path::{Path, PathBuf};
 use std::process::{Command, Stdio};
 
 /// Where the program stands when the repository has built it and `INK_CHECK` is not set.
-const BUILT_PROGRAM: &str = "../target/ink_check";
+const BUILT_PROGRAM: &str = "../target/bin/ink_check";
 
 /// Something that checks stories.
 pub trait Subject {
