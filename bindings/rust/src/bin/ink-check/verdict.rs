@@ -67,6 +67,7 @@ pub fn reason(refusal: Refusal, file: &[u8]) -> String {
         (Refusal::Length, length) if length > LONGEST_FILE => {
             format!("the file has over {LONGEST_FILE} bytes, {range}")
         }
+        (Refusal::Length, 1) => format!("the file has 1 byte, {range}"),
         (Refusal::Length, length) => format!("the file has {length} bytes, {range}"),
         _ => refusal.to_string(),
     }
