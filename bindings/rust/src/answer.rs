@@ -18,7 +18,7 @@ pub enum Answer {
 }
 
 /// The first breach of a story. Its text is that of `Display`.
-#[derive(Debug, Clone, PartialEq, Eq)]
+#[derive(Clone, PartialEq, Eq)]
 pub struct Breach {
     /// The rule that is broken.
     pub rule: Rule,
@@ -36,6 +36,19 @@ impl fmt::Display for Breach {
     /// The exact text, with U+FFFD for what is not UTF-8 in a name.
     fn fmt(&self, f: &mut fmt::Formatter<'_>) -> fmt::Result {
         f.write_str(&String::from_utf8_lossy(&self.message))
+    }
+}
+
+impl fmt::Debug for Breach {
+    /// All fields, the message as text.
+    fn fmt(&self, f: &mut fmt::Formatter<'_>) -> fmt::Result {
+        f.debug_struct("Breach")
+            .field("rule", &self.rule)
+            .field("place", &self.place)
+            .field("names", &self.names)
+            .field("entries", &self.entries)
+            .field("message", &String::from_utf8_lossy(&self.message))
+            .finish()
     }
 }
 

@@ -36,6 +36,11 @@ mod rule;
 mod story;
 mod validator;
 
+/// The page on the bindings, whose program is run by the tests.
+#[cfg(doctest)]
+#[doc = include_str!("../../README.md")]
+struct Page;
+
 pub use answer::{Answer, Breach, Found, Lookup, Rejection};
 pub use decode::{Stop, decode};
 pub use encode::EncodeError;
