@@ -1,9 +1,9 @@
 /*
  * Qaabireed: a validator for Ink stories of which every function is proved.
  *
- * Link libqaabireed.a, which `rt staticlib qaabireed` writes to target/staticlib/. It needs no
- * other library, keeps no state, takes no memory from the heap and holds no pointer after a
- * call, so that calls with different buffers may run at the same time.
+ * Link libqaabireed.a, which `rt staticlib qaabireed` writes to target/staticlib/. It needs
+ * nothing but the C library, keeps no state, takes no memory from the heap and holds no pointer
+ * after a call, so that calls with different buffers may run at the same time.
  *
  * What a caller owes, for both functions:
  * - no pointer is null, also where its length is 0;

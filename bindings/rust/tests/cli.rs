@@ -129,6 +129,18 @@ fn each_file_gets_a_line_and_the_worst_decides_the_status() {
 }
 
 #[test]
+fn the_samples_are_what_their_page_says() {
+    let bindings = Path::new(env!("CARGO_MANIFEST_DIR")).join("..");
+    let lines = "\
+samples/cellar.inkb: breach 2 at 69: Divert target not found: '-> cellar'
+  in knot 'hall', stitch 'dark'
+  path: knot 'hall' at 9 > stitch 'dark' at 54 > Divert 'cellar' at 69
+samples/hall.inkb: accepted
+";
+    run(&bindings, &["--explain", "samples"], b"").assert(lines, 1);
+}
+
+#[test]
 fn every_refusal_is_given_in_words() {
     let mut mark = accepted();
     mark[19] = 1;

@@ -29,14 +29,14 @@ fn example() -> Story {
         .flow(hall)
 }
 
-/// A story with every node, expression and condition, every flag and every mode.
-fn everything() -> Story {
+/// Every node, expression and condition, every flag and every mode.
+fn every_node() -> Vec<Node> {
     let call = || {
         Call::new("f")
             .argument(Expression::Constant)
             .argument(Expression::variable("x"))
     };
-    let nodes = vec![
+    vec![
         Node::Plain,
         Node::Newline,
         Node::output(Expression::negate(Expression::negation(
@@ -73,7 +73,12 @@ fn everything() -> Story {
         Choice::new().label("c").node(Node::Plain).into(),
         Node::gather("g"),
         Node::call(call()),
-    ];
+    ]
+}
+
+/// A story with every node in each of its bodies.
+fn everything() -> Story {
+    let nodes = every_node();
     let stitch = Stitch::new("s")
         .parameter("p")
         .divert_parameter("q")
@@ -110,6 +115,12 @@ fn the_worked_example_has_the_bytes_of_its_table() {
         .map(|pair| u8::from_str_radix(pair, 16).unwrap())
         .collect();
     assert_eq!(example().encode(), Ok(bytes));
+}
+
+#[test]
+fn the_sample_is_the_worked_example() {
+    let sample = include_bytes!("../../samples/hall.inkb");
+    assert_eq!(example().encode(), Ok(sample.to_vec()));
 }
 
 #[test]

@@ -43,19 +43,19 @@ fn run(command: Command, out: &mut BufWriter<StdoutLock>, terminal: bool) -> Res
     match command {
         Command::Help => out.write_all(arguments::HELP.as_bytes()).map(|()| 0),
         Command::Version => writeln!(out, "ink-check {}", env!("CARGO_PKG_VERSION")).map(|()| 0),
+        Command::Dump(Input::Standard) if stdin().is_terminal() => Ok(no_path()),
         Command::Dump(input) => dump(&input, out),
-        Command::Check(options) if reads_terminal(&options) => {
-            let line = "standard input is a terminal; give files or folders, see ink-check --help";
-            let _ = fail(line);
-            Ok(2)
+        Command::Check(options) if options.inputs.is_empty() && stdin().is_terminal() => {
+            Ok(no_path())
         }
         Command::Check(options) => check(&options, out, terminal),
     }
 }
 
-/// Whether only standard input was left to read and nothing is piped to it.
-fn reads_terminal(options: &Options) -> bool {
-    options.inputs.is_empty() && stdin().is_terminal()
+/// Says that there is nothing to read, where no path is given and nothing is piped in.
+fn no_path() -> u8 {
+    let _ = fail("standard input is a terminal; give a file, see ink-check --help");
+    2
 }
 
 /// Checks every input and writes a line for each.
