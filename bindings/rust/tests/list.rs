@@ -149,8 +149,12 @@ fn every_lookup_has_its_answer_and_writes_the_index_of_a_check() {
         let found = lookup(&file, &mut index, &block.bytes("target"));
         let answer = block.get("answer").unwrap();
         assert!(allowed(answer, found), "{}: {found:?}", block.name);
-        let (_, expected, _) = checked(&file, index.len(), MESSAGE_LENGTH);
+        let (answer, expected, _) = checked(&file, index.len(), MESSAGE_LENGTH);
         assert_eq!(index, expected, "{}", block.name);
+        if let Lookup::Answered { entries, .. } = found {
+            let counted = numbers(&answer).map(|(_, entries)| entries);
+            assert_eq!(counted, Some(entries), "{}", block.name);
+        }
         count += 1;
     }
     assert!(count > 30, "only {count} lookups");
