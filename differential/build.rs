@@ -1,4 +1,4 @@
-//! Finds the folder of the original Rust and hands its path to the crate.
+//! Finds the folder of the original Rust and, where one is named, the archive under test.
 
 use std::path::PathBuf;
 
@@ -31,4 +31,27 @@ fn main() {
     }
     let folder = folder.canonicalize().unwrap();
     println!("cargo::rustc-env=INK_VALIDATE_FOLDER={}", folder.display());
+    link_library();
+}
+
+/// Links libqaabireed.a where `QAABIREED_LIB_DIR` names its folder; without it there is no library.
+fn link_library() {
+    println!("cargo::rerun-if-env-changed=QAABIREED_LIB_DIR");
+    println!("cargo::rustc-check-cfg=cfg(qaabireed_library)");
+    let Some(given) = std::env::var_os("QAABIREED_LIB_DIR") else {
+        return;
+    };
+    let folder = PathBuf::from(given);
+    let archive = folder.join("libqaabireed.a");
+    println!("cargo::rerun-if-changed={}", archive.display());
+    if !archive.is_file() {
+        println!(
+            "cargo::error=QAABIREED_LIB_DIR has no libqaabireed.a in it: {}",
+            folder.display()
+        );
+        return;
+    }
+    println!("cargo::rustc-link-search=native={}", folder.display());
+    println!("cargo::rustc-link-lib=static=qaabireed");
+    println!("cargo::rustc-cfg=qaabireed_library");
 }

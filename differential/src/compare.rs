@@ -43,6 +43,38 @@ pub fn compare(case: &Case, subject: Option<&mut dyn Subject>) -> Outcome {
     outcome
 }
 
+/// The subject against the second implementation, with buffers just long enough, one short and longer.
+pub fn compare_lent(case: &Case, subject: &mut dyn Subject) -> Vec<String> {
+    let enough = 3 * case.file.len().saturating_sub(TRAILER);
+    let lengths = [
+        (enough, MESSAGE),
+        (enough.saturating_sub(1), MESSAGE),
+        (enough, MESSAGE - 1),
+        (enough + 4, MESSAGE + 9),
+    ];
+    let differences = lengths.map(|(index, message)| {
+        let lent = Case {
+            file: case.file.clone(),
+            story: None,
+            index,
+            message,
+            targets: case.targets.clone(),
+        };
+        let mut outcome = Outcome {
+            answer: second::check(&lent.file, index, message),
+            judged: false,
+            lookups: Vec::new(),
+            differences: Vec::new(),
+        };
+        outcome.compare_subject(&lent, subject);
+        outcome.compare_subject_lookups(&lent, subject);
+        let place = format!("lent {index} and {message}: ");
+        let lines = outcome.differences.into_iter();
+        lines.map(|line| place.clone() + &line).collect::<Vec<_>>()
+    });
+    differences.concat()
+}
+
 impl Outcome {
     /// Notes a difference.
     fn differ(&mut self, what: &str, expected: impl std::fmt::Debug, got: impl std::fmt::Debug) {

@@ -21,6 +21,8 @@ pub mod decode;
 pub mod encode;
 pub mod generate;
 pub mod layout;
+#[cfg(qaabireed_library)]
+pub mod library;
 pub mod limits;
 pub mod random;
 pub mod second;

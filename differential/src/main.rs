@@ -1,7 +1,7 @@
 //! The commands: `run` compares stories, `list` prints the stored list, `stored` writes a program's files, `check` answers as `ink_check`.
 
 use differential::cases::case;
-use differential::compare::compare;
+use differential::compare::{compare, compare_lent};
 use differential::second;
 use differential::stored;
 use differential::subject::{Program, Subject};
@@ -66,6 +66,14 @@ fn check() -> ExitCode {
     }
 }
 
+/// The library, where the build has linked it.
+fn library() -> Option<Box<dyn Subject>> {
+    #[cfg(qaabireed_library)]
+    return Some(Box::new(differential::library::Library::default()));
+    #[cfg(not(qaabireed_library))]
+    None
+}
+
 /// Compares so many stories of a seed.
 fn run(count: u64, seed: u64) -> ExitCode {
     let mut program = match Program::find() {
@@ -81,11 +89,20 @@ fn run(count: u64, seed: u64) -> ExitCode {
             "subject: none (no INK_CHECK, no program built); the original is compared with the second implementation only"
         ),
     }
+    let mut library = library();
+    match &library {
+        Some(library) => println!("library: {}", library.title()),
+        None => println!("library: none (built without QAABIREED_LIB_DIR)"),
+    }
     let mut tally = Tally::default();
     for number in 0..count {
         let case = case(seed, number);
         let subject = program.as_mut().map(|program| program as &mut dyn Subject);
-        let outcome = compare(&case, subject);
+        let mut outcome = compare(&case, subject);
+        if let Some(library) = &mut library {
+            let differences = compare_lent(&case, library.as_mut());
+            outcome.differences.extend(differences);
+        }
         tally.count(number, &case.file, &outcome);
     }
     println!("{}", tally.report());

@@ -1,7 +1,7 @@
 //! The comparison sees what it should: right subjects pass, wrong ones are caught.
 
 use differential::cases::{Case, case};
-use differential::compare::{compare, returned_by};
+use differential::compare::{compare, compare_lent, returned_by};
 use differential::second::{self, Answer, Lookup};
 use differential::subject::{FoundTarget, Observed, Program, Returned, Subject};
 use differential::tally::Tally;
@@ -144,6 +144,33 @@ fn a_lookup_that_never_finds_is_caught() {
         },
     });
     assert!(caught > 100, "{caught}");
+}
+
+/// How many of some cases differ for a fault, with buffers exact, short and longer.
+fn differing_lent(fault: Fault) -> usize {
+    let mut subject = Library {
+        fault,
+        found: |found| found,
+    };
+    let differs = |number: &u64| !compare_lent(&case(3, *number), &mut subject).is_empty();
+    (0..100).filter(differs).count()
+}
+
+#[test]
+fn faults_that_only_longer_or_short_buffers_show_are_caught() {
+    assert_eq!(differing_lent(|_, _, _| {}), 0);
+    let longer = differing_lent(|_, index, message| {
+        if message.len() > 640 {
+            *index.last_mut().unwrap() = 0;
+        }
+    });
+    assert_eq!(longer, 100);
+    let short = differing_lent(|_, _, message| {
+        if message.len() == 639 {
+            message[638] = 0;
+        }
+    });
+    assert_eq!(short, 100);
 }
 
 #[test]
