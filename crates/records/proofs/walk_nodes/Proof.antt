@@ -6,8 +6,8 @@ use Rattle.records.proofs.Notes.{walked-nodes}
 use Rattle.records.proofs.walk_nodes.Statement.{statement}
 use Rattle.records.proofs.walk_nodes.Tie as tie
 
-walk-list-requires : tie.Need-walk-list-requires
-walk-list-requires c κs = search needs
+list-requires : tie.Need-list-requires
+list-requires c κs = search needs
 
 same-length : tie.Need-same-length
 same-length c = search needs
@@ -16,7 +16,7 @@ returns : tie.Need-returns
 unfolding nodes
 returns c =
     let a = c .before .before .before .before .before .before .args in
-    walked-nodes (a .s .now) (a .base) (a .skip) (omega (arith, c .before .before .before .before .before .before .pre)) (c .before .before .walk-list .ensures)
+    walked-nodes (a .s .now) (a .base) (a .skip) (omega (arith, c .before .before .before .before .before .before .pre)) (c .before .before .list .ensures)
 
 pub walk-nodes-spec : {M : Type 1} → statement M
-walk-nodes-spec = tie.close (tie.spec walk-list-requires same-length returns)
+walk-nodes-spec = tie.close (tie.spec list-requires same-length returns)

@@ -1,4 +1,4 @@
--- `walk_last`: a list of nodes, and nothing more. Assumes nothing.
+-- `last`: a list of nodes, and nothing more. Assumes nothing.
 use Prim.Native.Nat.{ℕ, _+_, _≤_}
 use mathlib.Core.Path.{refl}
 use native.Mathlib.Omega.{arith}
@@ -10,9 +10,9 @@ use Rattle.records.specs.Work.{st, noting}
 use Rattle.fields.proofs.Laws.{list-fits}
 use Rattle.records.proofs.Walking.{listed-cut, listed-else, listed-on, not-done, told-end}
 use borrow.Author.Needs.{needs}
-use Rattle.records.proofs.walk_last.Reads as walk-last
-use Rattle.records.proofs.+walk_arms+walk_assign+walk_body+walk_branches+walk_call+walk_choice+walk_conditional+walk_else+walk_exact+walk_first+walk_label+walk_last+walk_list+walk_lists+walk_options+walk_record+walk_set+walk_switch+walk_test.Lts-walk_last as lts
-use Rattle.records.proofs.+walk_arms+walk_assign+walk_body+walk_branches+walk_call+walk_choice+walk_conditional+walk_else+walk_exact+walk_first+walk_label+walk_last+walk_list+walk_lists+walk_options+walk_record+walk_set+walk_switch+walk_test.Proof.Base.{walk-last-at, walk-last-uses}
+use Rattle.records.proofs.walker.last.Reads as walk-last
+use Rattle.records.proofs.walker.+arms+assign+body+branches+call+choice+conditional+else_arm+exact+first+label+last+list+lists+options+record+set+switch+test.Lts-last as lts
+use Rattle.records.proofs.walker.+arms+assign+body+branches+call+choice+conditional+else_arm+exact+first+label+last+list+lists+options+record+set+switch+test.Proof.Base.{walk-last-at, walk-last-uses}
 
 module _ (t : ℕ) where
   fits : (c : lts.After-known-told (walk-last-uses t) (walk-last-at t) walk-last.Post) → 4 + c .before .len .given .0 .0 ≤ length (c .before .before .before .before .before .before .args .s .now)
@@ -27,14 +27,14 @@ module _ (t : ℕ) where
   add-e : lts.Need-add-e (walk-last-uses t) (walk-last-at t) walk-last.Post
   add-e c = omega (arith, fits c)
 
-  part-end : lts.Need-part-walk-list-end (walk-last-uses t) (walk-last-at t) walk-last.Post
+  part-end : lts.Need-part-list-end (walk-last-uses t) (walk-last-at t) walk-last.Post
   part-end c = omega (arith, fits c)
 
-  add-4 : lts.Need-add-walk-list (walk-last-uses t) (walk-last-at t) walk-last.Post
+  add-4 : lts.Need-add-list (walk-last-uses t) (walk-last-at t) walk-last.Post
   add-4 c = omega (arith, fits (c .before), c .before .before .before .before .before .before .before .pre .1)
 
-  piece-requires : lts.Need-walk-list-requires (walk-last-uses t) (walk-last-at t) walk-last.Post
-  piece-requires c κs = omega (arith, fits (c .before .before), c .before .walk-list-arg .given .2, c .before .before .before .before .before .before .before .before .pre .0, c .before .before .before .before .before .before .before .before .pre .1)
+  piece-requires : lts.Need-list-requires (walk-last-uses t) (walk-last-at t) walk-last.Post
+  piece-requires c κs = omega (arith, fits (c .before .before), c .before .list-arg .given .2, c .before .before .before .before .before .before .before .before .pre .0, c .before .before .before .before .before .before .before .before .pre .1)
 
   other : lts.Need-returns-2 (walk-last-uses t) (walk-last-at t) walk-last.Post
   unfolding last
@@ -42,7 +42,7 @@ module _ (t : ℕ) where
       let a = c .before .before .before .before .before .before .before .before .before .before .before .before .before .args in
       let k = c .before .before .before .before .before .before .before .before .len .given in
       (listed-else (noting (a .skip)) (a .base) (st (a .out .now) (a .n)) (recordOf (a .left) (a .role)) ending (a .s .now) (k .0 .0)
-      (c .before .before .before .before .before .before .before .before .before .before .read-list .ensures) (k .1) (c .before .before .before .before .walk-list .ensures) (not-done (tagOf the-type) (λ m. refl) (c .before .before .before .before .walk-list .result) (c .before .match2 .keys2)))
+      (c .before .before .before .before .before .before .before .before .before .before .read-list .ensures) (k .1) (c .before .before .before .before .list .ensures) (not-done (tagOf the-type) (λ m. refl) (c .before .before .before .before .list .result) (c .before .match2 .keys2)))
 
   sub-rest : lts.Need-sub-at-end (walk-last-uses t) (walk-last-at t) walk-last.Post
   sub-rest c = fits (c .before .before .before .before .before .before .before .before)
@@ -55,7 +55,7 @@ module _ (t : ℕ) where
   rest c =
       let a = c .before .before .before .before .before .before .before .before .before .before .before .before .before .before .before .before .args in
       let k = c .before .before .before .before .before .before .before .before .before .before .before .len .given in
-      rw (listed-on (noting (a .skip)) (a .base) (st (a .out .now) (a .n)) (recordOf (a .left) (a .role)) ending (a .s .now) (k .0 .0) (c .before .before .before .w .given .0 .0) (c .before .before .before .before .before .before .before .before .before .before .before .before .before .read-list .ensures) (k .1) (c .before .before .before .before .before .before .before .walk-list .ensures) (c .before .before .before .w .given .1)) (told-end _ _ _ _ (c .at-end .ensures))
+      rw (listed-on (noting (a .skip)) (a .base) (st (a .out .now) (a .n)) (recordOf (a .left) (a .role)) ending (a .s .now) (k .0 .0) (c .before .before .before .w .given .0 .0) (c .before .before .before .before .before .before .before .before .before .before .before .before .before .read-list .ensures) (k .1) (c .before .before .before .before .before .before .before .list .ensures) (c .before .before .before .w .given .1)) (told-end _ _ _ _ (c .at-end .ensures))
 
   pub ok : {M : Type 1} → lts.Closed (walk-last-uses t) (walk-last-at t) walk-last.Post M
   ok = lts.spec (walk-last-uses t) (walk-last-at t) walk-last.Post (λ c κs. search needs) (λ c. search needs) (λ c. search needs) cut add-e (λ c. search needs) (λ c. search needs) part-end add-4 piece-requires (λ c. search needs) (λ c. search needs) (λ c. search needs) other sub-rest part-rest (λ c. search needs) (λ c κs. search needs) (λ c. search needs) rest

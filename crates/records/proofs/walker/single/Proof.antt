@@ -1,4 +1,4 @@
--- `walk_single`: the name, then nothing. Assumes nothing.
+-- `single`: the name, then nothing. Assumes nothing.
 use Prim.Native.Nat.{_+_, _≤_}
 use native.Mathlib.Omega.{arith}
 use lib.ListN.{length}
@@ -7,8 +7,8 @@ use Rattle.records.specs.Grammar.{ending}
 use Rattle.records.specs.Work.{st, noting}
 use Rattle.records.proofs.Walking.{named-refused, named-on, told-end}
 use borrow.Author.Needs.{needs}
-use Rattle.records.proofs.walk_single.Statement.{statement}
-use Rattle.records.proofs.walk_single.Tie as tie
+use Rattle.records.proofs.walker.single.Statement.{statement}
+use Rattle.records.proofs.walker.single.Tie as tie
 
 fits : (c : tie.After-known-told2) → 1 + c .before .answer2 .given .0 .0 ≤ length (c .before .before .before .before .before .before .args .s .now)
 fits c = name-fits (c .before .before .before .before .before .before .args .s .now) (c .before .answer2 .given .0 .0) (c .before .before .before .read-name .ensures) (c .before .answer2 .given .1)
@@ -48,8 +48,8 @@ returns-2 c =
     rw (named-on (noting (a .skip)) (a .base) (st (a .out .now) (a .n)) ending (a .s .now) (c .before .before .before .answer2 .given .0 .0) (c .before .before .before .before .before .read-name .ensures) (c .before .before .before .answer2 .given .1))
     (told-end (noting (a .skip)) _ _ _ (c .at-end .ensures))
 
-pub walk-single-spec : {M : Type 1} → statement M
-walk-single-spec =
+pub single-spec : {M : Type 1} → statement M
+single-spec =
     tie.close
     (tie.spec
     read-name-requires

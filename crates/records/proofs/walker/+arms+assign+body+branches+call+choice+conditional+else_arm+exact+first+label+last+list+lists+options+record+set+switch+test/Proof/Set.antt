@@ -1,4 +1,4 @@
--- `walk_set`: the name, then the expression. Assumes nothing.
+-- `set`: the name, then the expression. Assumes nothing.
 use Prim.Native.Nat.{ℕ, _+_, _≤_}
 use native.Mathlib.Omega.{arith}
 use lib.ListN.{length}
@@ -8,9 +8,9 @@ use Rattle.records.specs.Work.{st, noting}
 use Rattle.fields.proofs.Laws.{name-fits}
 use Rattle.records.proofs.Walking.{named-refused, named-on}
 use borrow.Author.Needs.{needs}
-use Rattle.records.proofs.walk_set.Reads as walk-set
-use Rattle.records.proofs.+walk_arms+walk_assign+walk_body+walk_branches+walk_call+walk_choice+walk_conditional+walk_else+walk_exact+walk_first+walk_label+walk_last+walk_list+walk_lists+walk_options+walk_record+walk_set+walk_switch+walk_test.Lts-walk_set as lts
-use Rattle.records.proofs.+walk_arms+walk_assign+walk_body+walk_branches+walk_call+walk_choice+walk_conditional+walk_else+walk_exact+walk_first+walk_label+walk_last+walk_list+walk_lists+walk_options+walk_record+walk_set+walk_switch+walk_test.Proof.Base.{walk-set-at, walk-set-uses}
+use Rattle.records.proofs.walker.set.Reads as walk-set
+use Rattle.records.proofs.walker.+arms+assign+body+branches+call+choice+conditional+else_arm+exact+first+label+last+list+lists+options+record+set+switch+test.Lts-set as lts
+use Rattle.records.proofs.walker.+arms+assign+body+branches+call+choice+conditional+else_arm+exact+first+label+last+list+lists+options+record+set+switch+test.Proof.Base.{walk-set-at, walk-set-uses}
 
 module _ (t : ℕ) where
   fits : (c : lts.After-known-told2 (walk-set-uses t) (walk-set-at t) walk-set.Post) → 1 + c .before .answer2 .given .0 .0 ≤ length (c .before .before .before .before .before .before .args .s .now)
@@ -24,22 +24,22 @@ module _ (t : ℕ) where
   add-e : lts.Need-add-e (walk-set-uses t) (walk-set-at t) walk-set.Post
   add-e c = omega (arith, fits c)
 
-  sub-rest : lts.Need-sub-walk-exact (walk-set-uses t) (walk-set-at t) walk-set.Post
+  sub-rest : lts.Need-sub-exact (walk-set-uses t) (walk-set-at t) walk-set.Post
   sub-rest c = fits c
 
-  part-rest : lts.Need-part-walk-exact-start (walk-set-uses t) (walk-set-at t) walk-set.Post
+  part-rest : lts.Need-part-exact-start (walk-set-uses t) (walk-set-at t) walk-set.Post
   part-rest c = omega (arith, fits c)
 
-  add-base : lts.Need-add-walk-exact (walk-set-uses t) (walk-set-at t) walk-set.Post
+  add-base : lts.Need-add-exact (walk-set-uses t) (walk-set-at t) walk-set.Post
   add-base c = omega (arith, fits (c .before), c .before .before .before .before .before .before .before .pre .1)
 
-  rest-requires : lts.Need-walk-exact-requires (walk-set-uses t) (walk-set-at t) walk-set.Post
-  rest-requires c κs = omega (arith, fits (c .before .before), c .before .walk-exact-arg .given .2, c .before .before .before .before .before .before .before .before .pre .0, c .before .before .before .before .before .before .before .before .pre .1)
+  rest-requires : lts.Need-exact-requires (walk-set-uses t) (walk-set-at t) walk-set.Post
+  rest-requires c κs = omega (arith, fits (c .before .before), c .before .exact-arg .given .2, c .before .before .before .before .before .before .before .before .pre .0, c .before .before .before .before .before .before .before .before .pre .1)
 
   rest : lts.Need-returns-2 (walk-set-uses t) (walk-set-at t) walk-set.Post
   rest c =
       let a = c .before .before .before .before .before .before .before .before .before .before .before .args in
-      rw (named-on (noting (a .skip)) (a .base) (st (a .out .now) (a .n)) (exact 1 (recordOf (a .left) Visited)) (a .s .now) (c .before .before .before .before .before .before .answer2 .given .0 .0) (c .before .before .before .before .before .before .before .before .read-name .ensures) (c .before .before .before .before .before .before .answer2 .given .1)) (c .before .before .walk-exact .ensures)
+      rw (named-on (noting (a .skip)) (a .base) (st (a .out .now) (a .n)) (exact 1 (recordOf (a .left) Visited)) (a .s .now) (c .before .before .before .before .before .before .answer2 .given .0 .0) (c .before .before .before .before .before .before .before .before .read-name .ensures) (c .before .before .before .before .before .before .answer2 .given .1)) (c .before .before .exact .ensures)
 
   pub ok : {M : Type 1} → lts.Closed (walk-set-uses t) (walk-set-at t) walk-set.Post M
   ok = lts.spec (walk-set-uses t) (walk-set-at t) walk-set.Post (λ c κs. search needs) (λ c. search needs) (λ c. search needs) add-e sub-rest part-rest (λ c. search needs) add-base rest-requires cut (λ c. search needs) rest

@@ -1,4 +1,4 @@
--- `walk_test`: a flag, and an expression if it is on. Assumes nothing.
+-- `test`: a flag, and an expression if it is on. Assumes nothing.
 use Prim.Native.Nat.{ℕ, _≤_}
 use mathlib.Core.Path.{refl}
 use native.Mathlib.Omega.{arith}
@@ -9,25 +9,25 @@ use Rattle.records.specs.Work.{st, noting}
 use Rattle.records.specs.Grammar.{recordOf, nothing, front, tested}
 use Rattle.records.proofs.Walking.{flagged-refused, flagged-off, flagged-on, told-done}
 use borrow.Author.Needs.{needs}
-use Rattle.records.proofs.walk_test.Reads as walk-test
-use Rattle.records.proofs.+walk_arms+walk_assign+walk_body+walk_branches+walk_call+walk_choice+walk_conditional+walk_else+walk_exact+walk_first+walk_label+walk_last+walk_list+walk_lists+walk_options+walk_record+walk_set+walk_switch+walk_test.Lts-walk_test as lts
-use Rattle.records.proofs.+walk_arms+walk_assign+walk_body+walk_branches+walk_call+walk_choice+walk_conditional+walk_else+walk_exact+walk_first+walk_label+walk_last+walk_list+walk_lists+walk_options+walk_record+walk_set+walk_switch+walk_test.Proof.Base.{walk-test-at, walk-test-uses}
+use Rattle.records.proofs.walker.test.Reads as walk-test
+use Rattle.records.proofs.walker.+arms+assign+body+branches+call+choice+conditional+else_arm+exact+first+label+last+list+lists+options+record+set+switch+test.Lts-test as lts
+use Rattle.records.proofs.walker.+arms+assign+body+branches+call+choice+conditional+else_arm+exact+first+label+last+list+lists+options+record+set+switch+test.Proof.Base.{walk-test-at, walk-test-uses}
 
 module _ (t : ℕ) where
   on : (c : lts.After-enum-told2 (walk-test-uses t) (walk-test-at t) walk-test.Post) → 1 ≤ length (c .before .before .before .before .before .args .s .now)
   on c = on-fits (c .before .before .before .before .before .args .s .now) (c .before .before .read-flag .ensures) (c .enum-told2 .given .1)
 
-  sub-on : lts.Need-sub-walk-first (walk-test-uses t) (walk-test-at t) walk-test.Post
+  sub-on : lts.Need-sub-first (walk-test-uses t) (walk-test-at t) walk-test.Post
   sub-on c = on c
 
-  part-on : lts.Need-part-walk-first-start (walk-test-uses t) (walk-test-at t) walk-test.Post
+  part-on : lts.Need-part-first-start (walk-test-uses t) (walk-test-at t) walk-test.Post
   part-on c = omega (arith, on c)
 
-  add-on : lts.Need-add-walk-first (walk-test-uses t) (walk-test-at t) walk-test.Post
+  add-on : lts.Need-add-first (walk-test-uses t) (walk-test-at t) walk-test.Post
   add-on c = omega (arith, on (c .before), c .before .before .before .before .before .before .pre .1)
 
-  on-requires : lts.Need-walk-first-requires (walk-test-uses t) (walk-test-at t) walk-test.Post
-  on-requires c κs = omega (arith, on (c .before .before), c .before .walk-first-arg .given .2, c .before .before .before .before .before .before .before .pre .0, c .before .before .before .before .before .before .before .pre .1)
+  on-requires : lts.Need-first-requires (walk-test-uses t) (walk-test-at t) walk-test.Post
+  on-requires c κs = omega (arith, on (c .before .before), c .before .first-arg .given .2, c .before .before .before .before .before .before .before .pre .0, c .before .before .before .before .before .before .before .pre .1)
 
   by-off : lts.Need-returns (walk-test-uses t) (walk-test-at t) walk-test.Post
   unfolding tested
@@ -39,7 +39,7 @@ module _ (t : ℕ) where
   unfolding tested
   by-on c =
       let a = c .before .before .before .before .before .before .before .before .before .before .args in
-      rw (flagged-on (noting (a .skip)) (a .base) (st (a .out .now) (a .n)) nothing (front (recordOf (a .left) Visited) nothing) (a .s .now) (c .before .before .before .before .before .before .before .read-flag .ensures) (c .before .before .before .before .before .enum-told2 .given .1)) (c .before .before .walk-first .ensures)
+      rw (flagged-on (noting (a .skip)) (a .base) (st (a .out .now) (a .n)) nothing (front (recordOf (a .left) Visited) nothing) (a .s .now) (c .before .before .before .before .before .before .before .read-flag .ensures) (c .before .before .before .before .before .enum-told2 .given .1)) (c .before .before .first .ensures)
 
   refused : lts.Need-returns-3 (walk-test-uses t) (walk-test-at t) walk-test.Post
   unfolding tested

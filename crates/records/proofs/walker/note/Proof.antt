@@ -4,8 +4,8 @@ use lib.ListN.{length-set}
 use borrow.Author.Tests.{lt-ltb, le-ltb}
 use Rattle.records.specs.Work.{noting, slotted}
 use borrow.Author.Needs.{needs}
-use Rattle.records.proofs.note.Statement.{statement}
-use Rattle.records.proofs.note.Tie as tie
+use Rattle.records.proofs.walker.note.Statement.{statement}
+use Rattle.records.proofs.walker.note.Tie as tie
 
 wrapping-add-usize-requires : tie.Need-wrapping-add-usize-requires
 wrapping-add-usize-requires c κs = search needs

@@ -1,4 +1,4 @@
--- `walk_lists`: lists of nodes to the end, by a loop over what is left. Assumes nothing.
+-- `lists`: lists of nodes to the end, by a loop over what is left. Assumes nothing.
 use Prim.Native.Nat.{ℕ, _+_, _≤_}
 use mathlib.Core.Path.{_≡_, refl, _∙_}
 use native.Mathlib.Omega.{arith}
@@ -13,9 +13,9 @@ use Rattle.fields.proofs.Laws.{list-fits}
 use Rattle.records.proofs.Readings.{repeat-none, repeat-step, listed-local}
 use Rattle.records.proofs.Walking.{listed-cut, listed-else, listed-on, not-done, told-done}
 use borrow.Author.Needs.{needs}
-use Rattle.records.proofs.walk_lists.Reads as walk-lists
-use Rattle.records.proofs.+walk_arms+walk_assign+walk_body+walk_branches+walk_call+walk_choice+walk_conditional+walk_else+walk_exact+walk_first+walk_label+walk_last+walk_list+walk_lists+walk_options+walk_record+walk_set+walk_switch+walk_test.Lts-walk_lists as lts
-use Rattle.records.proofs.+walk_arms+walk_assign+walk_body+walk_branches+walk_call+walk_choice+walk_conditional+walk_else+walk_exact+walk_first+walk_label+walk_last+walk_list+walk_lists+walk_options+walk_record+walk_set+walk_switch+walk_test.Proof.Base.{walk-lists-at, walk-lists-uses}
+use Rattle.records.proofs.walker.lists.Reads as walk-lists
+use Rattle.records.proofs.walker.+arms+assign+body+branches+call+choice+conditional+else_arm+exact+first+label+last+list+lists+options+record+set+switch+test.Lts-lists as lts
+use Rattle.records.proofs.walker.+arms+assign+body+branches+call+choice+conditional+else_arm+exact+first+label+last+list+lists+options+record+set+switch+test.Proof.Base.{walk-lists-at, walk-lists-uses}
 
 -- what is left stands at `at`, and the run of the whole is the run of what is left
 abbrev Inv : lts.InvT-loop
@@ -43,14 +43,14 @@ module _ (t : ℕ) where
   add-e : lts.Need-add-e (walk-lists-uses t) (walk-lists-at t) walk-lists.Post Inv μ
   add-e c = omega (arith, fits c)
 
-  part-end : lts.Need-part-walk-list-end (walk-lists-uses t) (walk-lists-at t) walk-lists.Post Inv μ
+  part-end : lts.Need-part-list-end (walk-lists-uses t) (walk-lists-at t) walk-lists.Post Inv μ
   part-end c = omega (arith, fits c)
 
-  add-4 : lts.Need-add-walk-list (walk-lists-uses t) (walk-lists-at t) walk-lists.Post Inv μ
+  add-4 : lts.Need-add-list (walk-lists-uses t) (walk-lists-at t) walk-lists.Post Inv μ
   add-4 c = omega (arith, fits (c .before), c .before .before .before .before .before .before .loop .inv .0, c .before .before .before .before .before .before .before .before .before .pre .1)
 
-  piece-requires : lts.Need-walk-list-requires (walk-lists-uses t) (walk-lists-at t) walk-lists.Post Inv μ
-  piece-requires c κs = omega (arith, fits (c .before .before), c .before .walk-list-arg .given .2, c .before .before .before .before .before .before .before .loop .inv .0, c .before .before .before .before .before .before .before .before .before .before .pre .0, c .before .before .before .before .before .before .before .before .before .before .pre .1)
+  piece-requires : lts.Need-list-requires (walk-lists-uses t) (walk-lists-at t) walk-lists.Post Inv μ
+  piece-requires c κs = omega (arith, fits (c .before .before), c .before .list-arg .given .2, c .before .before .before .before .before .before .before .loop .inv .0, c .before .before .before .before .before .before .before .before .before .before .pre .0, c .before .before .before .before .before .before .before .before .before .before .pre .1)
 
   other : lts.Need-returns-2 (walk-lists-uses t) (walk-lists-at t) walk-lists.Post Inv μ
   other c =
@@ -59,7 +59,7 @@ module _ (t : ℕ) where
       let k = c .before .before .before .before .before .before .before .before .len .given in
       rw (l .inv .1, repeat-step (listed (recordOf (a .left) Node)) (listed-local (recordOf (a .left) Node)) (l .t .now) (c .before .before .before .before .before .before .before .before .before .before .before .loop-test .taken))
       (listed-else (noting (a .skip)) (l .at) (st (l .out) (l .count)) (recordOf (a .left) Node) (repeat (listed (recordOf (a .left) Node))) (l .t .now) (k .0 .0)
-      (c .before .before .before .before .before .before .before .before .before .before .read-list .ensures) (k .1) (c .before .before .before .before .walk-list .ensures) (not-done (tagOf the-type) (λ m. refl) (c .before .before .before .before .walk-list .result) (c .before .match2 .keys2)))
+      (c .before .before .before .before .before .before .before .before .before .before .read-list .ensures) (k .1) (c .before .before .before .before .list .ensures) (not-done (tagOf the-type) (λ m. refl) (c .before .before .before .before .list .result) (c .before .match2 .keys2)))
 
   add-at : lts.Need-add-at (walk-lists-uses t) (walk-lists-at t) walk-lists.Post Inv μ
   add-at c = omega (arith, fits (c .before .before .before .before .before .before .before .before), c .before .before .before .before .before .before .before .before .before .before .before .before .before .loop .inv .0, c .before .before .before .before .before .before .before .before .before .before .before .before .before .before .before .before .pre .1)
@@ -78,10 +78,10 @@ module _ (t : ℕ) where
       let a = c .before .before .before .before .before .before .before .before .before .before .before .before .before .before .before .before .before .args in
       let l = c .before .before .before .before .before .before .before .before .before .before .before .before .before .before .loop in
       let k = c .before .before .before .before .before .before .before .before .before .before .len .given in (
-        omega (arith, fits (c .before .before .before .before .before .before .before .before .before), c .t .given .2, l .inv .0, c .before .before .before .before .before .before .walk-list .kept),
+        omega (arith, fits (c .before .before .before .before .before .before .before .before .before), c .t .given .2, l .inv .0, c .before .before .before .before .before .before .list .kept),
         l .inv .1 ∙ rw (repeat-step (listed (recordOf (a .left) Node)) (listed-local (recordOf (a .left) Node)) (l .t .now) (c .before .before .before .before .before .before .before .before .before .before .before .before .before .loop-test .taken))
             (listed-on (noting (a .skip)) (l .at) (st (l .out) (l .count)) (recordOf (a .left) Node) (repeat (listed (recordOf (a .left) Node))) (l .t .now) (k .0 .0) (c .before .before .w .given .0 .0)
-            (c .before .before .before .before .before .before .before .before .before .before .before .before .read-list .ensures) (k .1) (c .before .before .before .before .before .before .walk-list .ensures) (c .before .before .w .given .1)),
+            (c .before .before .before .before .before .before .before .before .before .before .before .before .read-list .ensures) (k .1) (c .before .before .before .before .before .before .list .ensures) (c .before .before .w .given .1)),
       )
 
   finished : lts.Need-returns-3 (walk-lists-uses t) (walk-lists-at t) walk-lists.Post Inv μ

@@ -1,4 +1,4 @@
--- `walk_first`: the record at the front. Assumes nothing.
+-- `first`: the record at the front. Assumes nothing.
 use Prim.Native.Nat.{ℕ, _+_, _≤_}
 use native.Mathlib.Omega.{arith}
 use lib.ListN.{length}
@@ -7,9 +7,9 @@ use Rattle.records.specs.Work.{st, noting}
 use Rattle.fields.proofs.Laws.{head-fits}
 use Rattle.records.proofs.Walking.{front-cut, front-alone}
 use borrow.Author.Needs.{needs}
-use Rattle.records.proofs.walk_first.Reads as walk-first
-use Rattle.records.proofs.+walk_arms+walk_assign+walk_body+walk_branches+walk_call+walk_choice+walk_conditional+walk_else+walk_exact+walk_first+walk_label+walk_last+walk_list+walk_lists+walk_options+walk_record+walk_set+walk_switch+walk_test.Lts-walk_first as lts
-use Rattle.records.proofs.+walk_arms+walk_assign+walk_body+walk_branches+walk_call+walk_choice+walk_conditional+walk_else+walk_exact+walk_first+walk_label+walk_last+walk_list+walk_lists+walk_options+walk_record+walk_set+walk_switch+walk_test.Proof.Base.{walk-first-at, walk-first-uses}
+use Rattle.records.proofs.walker.first.Reads as walk-first
+use Rattle.records.proofs.walker.+arms+assign+body+branches+call+choice+conditional+else_arm+exact+first+label+last+list+lists+options+record+set+switch+test.Lts-first as lts
+use Rattle.records.proofs.walker.+arms+assign+body+branches+call+choice+conditional+else_arm+exact+first+label+last+list+lists+options+record+set+switch+test.Proof.Base.{walk-first-at, walk-first-uses}
 
 module _ (t : ℕ) where
   fits : (c : lts.After-known-told (walk-first-uses t) (walk-first-at t) walk-first.Post) → 5 + c .before .kind .given .0 .1 .0 ≤ length (c .before .before .before .before .before .before .args .s .now)
@@ -23,17 +23,17 @@ module _ (t : ℕ) where
   add-e : lts.Need-add-e (walk-first-uses t) (walk-first-at t) walk-first.Post
   add-e c = omega (arith, fits c)
 
-  part-end : lts.Need-part-walk-record-end (walk-first-uses t) (walk-first-at t) walk-first.Post
+  part-end : lts.Need-part-record-end (walk-first-uses t) (walk-first-at t) walk-first.Post
   part-end c = omega (arith, fits c)
 
-  piece-requires : lts.Need-walk-record-requires (walk-first-uses t) (walk-first-at t) walk-first.Post
-  piece-requires c κs = omega (arith, fits (c .before .before), c .before .walk-record-arg .given .2, c .before .before .before .before .before .before .before .before .pre .0, c .before .before .before .before .before .before .before .before .pre .1)
+  piece-requires : lts.Need-record-requires (walk-first-uses t) (walk-first-at t) walk-first.Post
+  piece-requires c κs = omega (arith, fits (c .before .before), c .before .record-arg .given .2, c .before .before .before .before .before .before .before .before .pre .0, c .before .before .before .before .before .before .before .before .pre .1)
 
   rest : lts.Need-returns-2 (walk-first-uses t) (walk-first-at t) walk-first.Post
   rest c =
       let a = c .before .before .before .before .before .before .before .before .before .before .before .args in
       let k = c .before .before .before .before .before .before .kind .given in
-      front-alone (noting (a .skip)) (a .base) (st (a .out .now) (a .n)) (recordOf (a .left) (a .role)) (a .s .now) (k .0 .0) (k .0 .1 .0) (c .before .before .before .before .before .before .before .before .read-head .ensures) (k .1) (c .before .before .walk-record .ensures)
+      front-alone (noting (a .skip)) (a .base) (st (a .out .now) (a .n)) (recordOf (a .left) (a .role)) (a .s .now) (k .0 .0) (k .0 .1 .0) (c .before .before .before .before .before .before .before .before .read-head .ensures) (k .1) (c .before .before .record .ensures)
 
   pub ok : {M : Type 1} → lts.Closed (walk-first-uses t) (walk-first-at t) walk-first.Post M
   ok = lts.spec (walk-first-uses t) (walk-first-at t) walk-first.Post (λ c κs. search needs) (λ c. search needs) (λ c. search needs) cut add-e (λ c. search needs) (λ c. search needs) part-end piece-requires (λ c. search needs) rest

@@ -1,4 +1,4 @@
--- `walk_assign`: a mode, a name and an expression. Assumes nothing.
+-- `assign`: a mode, a name and an expression. Assumes nothing.
 use Prim.Native.Nat.{ℕ}
 use native.Mathlib.Omega.{arith}
 use Rattle.fields.specs.declared.Role.the-variants.{Visited}
@@ -6,9 +6,9 @@ use Rattle.records.specs.Grammar.{recordOf, named, exact}
 use Rattle.records.specs.Work.{st, noting}
 use Rattle.records.proofs.Walking.{moded-cut, moded-on, moded-no}
 use borrow.Author.Needs.{needs}
-use Rattle.records.proofs.walk_assign.Reads as walk-assign
-use Rattle.records.proofs.+walk_arms+walk_assign+walk_body+walk_branches+walk_call+walk_choice+walk_conditional+walk_else+walk_exact+walk_first+walk_label+walk_last+walk_list+walk_lists+walk_options+walk_record+walk_set+walk_switch+walk_test.Lts-walk_assign as lts
-use Rattle.records.proofs.+walk_arms+walk_assign+walk_body+walk_branches+walk_call+walk_choice+walk_conditional+walk_else+walk_exact+walk_first+walk_label+walk_last+walk_list+walk_lists+walk_options+walk_record+walk_set+walk_switch+walk_test.Proof.Base.{walk-assign-at, walk-assign-uses}
+use Rattle.records.proofs.walker.assign.Reads as walk-assign
+use Rattle.records.proofs.walker.+arms+assign+body+branches+call+choice+conditional+else_arm+exact+first+label+last+list+lists+options+record+set+switch+test.Lts-assign as lts
+use Rattle.records.proofs.walker.+arms+assign+body+branches+call+choice+conditional+else_arm+exact+first+label+last+list+lists+options+record+set+switch+test.Proof.Base.{walk-assign-at, walk-assign-uses}
 
 module _ (t : ℕ) where
   cut : lts.Need-returns (walk-assign-uses t) (walk-assign-at t) walk-assign.Post
@@ -16,16 +16,16 @@ module _ (t : ℕ) where
       let a = c .before .before .before .args in
       moded-cut (noting (a .skip)) (a .base) (st (a .out .now) (a .n)) (named (exact 1 (recordOf (a .left) Visited))) (a .s .now) (omega (arith, c .if1 .taken))
 
-  add-base : lts.Need-add-walk-set (walk-assign-uses t) (walk-assign-at t) walk-assign.Post
+  add-base : lts.Need-add-set (walk-assign-uses t) (walk-assign-at t) walk-assign.Post
   add-base c = omega (arith, c .before .before .before .if1 .left, c .before .before .before .before .before .before .pre .1)
 
-  rest-requires : lts.Need-walk-set-requires (walk-assign-uses t) (walk-assign-at t) walk-assign.Post
-  rest-requires c κs = omega (arith, c .before .before .before .before .if1 .left, c .before .walk-set-arg .given .2, c .before .before .before .before .before .before .before .pre .0, c .before .before .before .before .before .before .before .pre .1)
+  rest-requires : lts.Need-set-requires (walk-assign-uses t) (walk-assign-at t) walk-assign.Post
+  rest-requires c κs = omega (arith, c .before .before .before .before .if1 .left, c .before .set-arg .given .2, c .before .before .before .before .before .before .before .pre .0, c .before .before .before .before .before .before .before .pre .1)
 
   rest : lts.Need-returns-2 (walk-assign-uses t) (walk-assign-at t) walk-assign.Post
   rest c =
       let a = c .before .before .before .before .before .before .before .before .before .before .args in
-      rw (moded-on (noting (a .skip)) (a .base) (st (a .out .now) (a .n)) (named (exact 1 (recordOf (a .left) Visited))) (a .s .now) (omega (arith, c .before .before .before .before .before .before .before .if1 .left)) (omega (arith, c .before .before .before .before .before .if2 .taken))) (c .before .before .walk-set .ensures)
+      rw (moded-on (noting (a .skip)) (a .base) (st (a .out .now) (a .n)) (named (exact 1 (recordOf (a .left) Visited))) (a .s .now) (omega (arith, c .before .before .before .before .before .before .before .if1 .left)) (omega (arith, c .before .before .before .before .before .if2 .taken))) (c .before .before .set .ensures)
 
   unknown : lts.Need-returns-3 (walk-assign-uses t) (walk-assign-at t) walk-assign.Post
   unknown c =

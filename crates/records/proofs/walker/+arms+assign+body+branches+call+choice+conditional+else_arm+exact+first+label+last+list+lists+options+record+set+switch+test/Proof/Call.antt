@@ -1,4 +1,4 @@
--- `walk_call`: the name, then expressions to the end. Assumes nothing.
+-- `call`: the name, then expressions to the end. Assumes nothing.
 use Prim.Native.Nat.{ℕ, _+_, _≤_}
 use native.Mathlib.Omega.{arith}
 use lib.ListN.{length}
@@ -7,9 +7,9 @@ use Rattle.records.specs.Work.{st, noting}
 use Rattle.fields.proofs.Laws.{name-fits}
 use Rattle.records.proofs.Walking.{named-refused, named-on}
 use borrow.Author.Needs.{needs}
-use Rattle.records.proofs.walk_call.Reads as walk-call
-use Rattle.records.proofs.+walk_arms+walk_assign+walk_body+walk_branches+walk_call+walk_choice+walk_conditional+walk_else+walk_exact+walk_first+walk_label+walk_last+walk_list+walk_lists+walk_options+walk_record+walk_set+walk_switch+walk_test.Lts-walk_call as lts
-use Rattle.records.proofs.+walk_arms+walk_assign+walk_body+walk_branches+walk_call+walk_choice+walk_conditional+walk_else+walk_exact+walk_first+walk_label+walk_last+walk_list+walk_lists+walk_options+walk_record+walk_set+walk_switch+walk_test.Proof.Base.{walk-call-at, walk-call-uses}
+use Rattle.records.proofs.walker.call.Reads as walk-call
+use Rattle.records.proofs.walker.+arms+assign+body+branches+call+choice+conditional+else_arm+exact+first+label+last+list+lists+options+record+set+switch+test.Lts-call as lts
+use Rattle.records.proofs.walker.+arms+assign+body+branches+call+choice+conditional+else_arm+exact+first+label+last+list+lists+options+record+set+switch+test.Proof.Base.{walk-call-at, walk-call-uses}
 
 module _ (t : ℕ) where
   fits : (c : lts.After-known-told2 (walk-call-uses t) (walk-call-at t) walk-call.Post) → 1 + c .before .answer2 .given .0 .0 ≤ length (c .before .before .before .before .before .before .args .s .now)
@@ -23,22 +23,22 @@ module _ (t : ℕ) where
   add-e : lts.Need-add-e (walk-call-uses t) (walk-call-at t) walk-call.Post
   add-e c = omega (arith, fits c)
 
-  sub-rest : lts.Need-sub-walk-list (walk-call-uses t) (walk-call-at t) walk-call.Post
+  sub-rest : lts.Need-sub-list (walk-call-uses t) (walk-call-at t) walk-call.Post
   sub-rest c = fits c
 
-  part-rest : lts.Need-part-walk-list-start (walk-call-uses t) (walk-call-at t) walk-call.Post
+  part-rest : lts.Need-part-list-start (walk-call-uses t) (walk-call-at t) walk-call.Post
   part-rest c = omega (arith, fits c)
 
-  add-base : lts.Need-add-walk-list (walk-call-uses t) (walk-call-at t) walk-call.Post
+  add-base : lts.Need-add-list (walk-call-uses t) (walk-call-at t) walk-call.Post
   add-base c = omega (arith, fits (c .before), c .before .before .before .before .before .before .before .pre .1)
 
-  rest-requires : lts.Need-walk-list-requires (walk-call-uses t) (walk-call-at t) walk-call.Post
-  rest-requires c κs = omega (arith, fits (c .before .before), c .before .walk-list-arg .given .2, c .before .before .before .before .before .before .before .before .pre .0, c .before .before .before .before .before .before .before .before .pre .1)
+  rest-requires : lts.Need-list-requires (walk-call-uses t) (walk-call-at t) walk-call.Post
+  rest-requires c κs = omega (arith, fits (c .before .before), c .before .list-arg .given .2, c .before .before .before .before .before .before .before .before .pre .0, c .before .before .before .before .before .before .before .before .pre .1)
 
   rest : lts.Need-returns-2 (walk-call-uses t) (walk-call-at t) walk-call.Post
   rest c =
       let a = c .before .before .before .before .before .before .before .before .before .before .before .args in
-      rw (named-on (noting (a .skip)) (a .base) (st (a .out .now) (a .n)) (records (recordOf (a .left) (a .role))) (a .s .now) (c .before .before .before .before .before .before .answer2 .given .0 .0) (c .before .before .before .before .before .before .before .before .read-name .ensures) (c .before .before .before .before .before .before .answer2 .given .1)) (c .before .before .walk-list .ensures)
+      rw (named-on (noting (a .skip)) (a .base) (st (a .out .now) (a .n)) (records (recordOf (a .left) (a .role))) (a .s .now) (c .before .before .before .before .before .before .answer2 .given .0 .0) (c .before .before .before .before .before .before .before .before .read-name .ensures) (c .before .before .before .before .before .before .answer2 .given .1)) (c .before .before .list .ensures)
 
   pub ok : {M : Type 1} → lts.Closed (walk-call-uses t) (walk-call-at t) walk-call.Post M
   ok = lts.spec (walk-call-uses t) (walk-call-at t) walk-call.Post (λ c κs. search needs) (λ c. search needs) (λ c. search needs) add-e sub-rest part-rest (λ c. search needs) add-base rest-requires cut (λ c. search needs) rest

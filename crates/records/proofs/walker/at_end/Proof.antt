@@ -1,8 +1,8 @@
 -- `at_end`: what is left decides. Assumes nothing.
 use native.Mathlib.Omega.{arith}
 use Rattle.records.proofs.Walking.{end-none, end-some}
-use Rattle.records.proofs.at_end.Statement.{statement}
-use Rattle.records.proofs.at_end.Tie as tie
+use Rattle.records.proofs.walker.at_end.Statement.{statement}
+use Rattle.records.proofs.walker.at_end.Tie as tie
 
 returns : tie.Need-returns
 returns c = end-some _ _ (omega (arith, c .if1 .taken))

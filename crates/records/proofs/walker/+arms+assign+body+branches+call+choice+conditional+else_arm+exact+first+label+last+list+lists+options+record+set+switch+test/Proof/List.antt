@@ -1,4 +1,4 @@
--- `walk_list`: records of a role to the end, by a loop over what is left. Assumes nothing.
+-- `list`: records of a role to the end, by a loop over what is left. Assumes nothing.
 use Prim.Native.Nat.{ℕ, _+_, _≤_}
 use mathlib.Core.Path.{_≡_, refl, _∙_}
 use native.Mathlib.Omega.{arith}
@@ -12,9 +12,9 @@ use Rattle.fields.proofs.Laws.{head-fits}
 use Rattle.records.proofs.Readings.{repeat-none, repeat-step, front-local}
 use Rattle.records.proofs.Walking.{front-cut, front-else, front-on, not-done, told-done}
 use borrow.Author.Needs.{needs}
-use Rattle.records.proofs.walk_list.Reads as walk-list
-use Rattle.records.proofs.+walk_arms+walk_assign+walk_body+walk_branches+walk_call+walk_choice+walk_conditional+walk_else+walk_exact+walk_first+walk_label+walk_last+walk_list+walk_lists+walk_options+walk_record+walk_set+walk_switch+walk_test.Lts-walk_list as lts
-use Rattle.records.proofs.+walk_arms+walk_assign+walk_body+walk_branches+walk_call+walk_choice+walk_conditional+walk_else+walk_exact+walk_first+walk_label+walk_last+walk_list+walk_lists+walk_options+walk_record+walk_set+walk_switch+walk_test.Proof.Base.{walk-list-at, walk-list-uses}
+use Rattle.records.proofs.walker.list.Reads as walk-list
+use Rattle.records.proofs.walker.+arms+assign+body+branches+call+choice+conditional+else_arm+exact+first+label+last+list+lists+options+record+set+switch+test.Lts-list as lts
+use Rattle.records.proofs.walker.+arms+assign+body+branches+call+choice+conditional+else_arm+exact+first+label+last+list+lists+options+record+set+switch+test.Proof.Base.{walk-list-at, walk-list-uses}
 
 -- what is left stands at `at`, and the run of the whole is the run of what is left
 abbrev Inv : lts.InvT-loop
@@ -42,11 +42,11 @@ module _ (t : ℕ) where
   add-e : lts.Need-add-e (walk-list-uses t) (walk-list-at t) walk-list.Post Inv μ
   add-e c = omega (arith, fits c)
 
-  part-end : lts.Need-part-walk-record-end (walk-list-uses t) (walk-list-at t) walk-list.Post Inv μ
+  part-end : lts.Need-part-record-end (walk-list-uses t) (walk-list-at t) walk-list.Post Inv μ
   part-end c = omega (arith, fits c)
 
-  piece-requires : lts.Need-walk-record-requires (walk-list-uses t) (walk-list-at t) walk-list.Post Inv μ
-  piece-requires c κs = omega (arith, fits (c .before .before), c .before .walk-record-arg .given .2, c .before .before .before .before .before .before .before .loop .inv .0, c .before .before .before .before .before .before .before .before .before .before .pre .0, c .before .before .before .before .before .before .before .before .before .before .pre .1)
+  piece-requires : lts.Need-record-requires (walk-list-uses t) (walk-list-at t) walk-list.Post Inv μ
+  piece-requires c κs = omega (arith, fits (c .before .before), c .before .record-arg .given .2, c .before .before .before .before .before .before .before .loop .inv .0, c .before .before .before .before .before .before .before .before .before .before .pre .0, c .before .before .before .before .before .before .before .before .before .before .pre .1)
 
   other : lts.Need-returns-2 (walk-list-uses t) (walk-list-at t) walk-list.Post Inv μ
   other c =
@@ -55,7 +55,7 @@ module _ (t : ℕ) where
       let k = c .before .before .before .before .before .before .before .before .kind .given in
       rw (l .inv .1, repeat-step (front (recordOf (a .left) (a .role))) (front-local (recordOf (a .left) (a .role))) (l .t .now) (c .before .before .before .before .before .before .before .before .before .before .before .loop-test .taken))
       (front-else (noting (a .skip)) (l .at) (st (l .out) (l .count)) (recordOf (a .left) (a .role)) (repeat (front (recordOf (a .left) (a .role)))) (l .t .now) (k .0 .0) (k .0 .1 .0)
-      (c .before .before .before .before .before .before .before .before .before .before .read-head .ensures) (k .1) (c .before .before .before .before .walk-record .ensures) (not-done (tagOf the-type) (λ m. refl) (c .before .before .before .before .walk-record .result) (c .before .match2 .keys2)))
+      (c .before .before .before .before .before .before .before .before .before .before .read-head .ensures) (k .1) (c .before .before .before .before .record .ensures) (not-done (tagOf the-type) (λ m. refl) (c .before .before .before .before .record .result) (c .before .match2 .keys2)))
 
   add-at : lts.Need-add-at (walk-list-uses t) (walk-list-at t) walk-list.Post Inv μ
   add-at c = omega (arith, fits (c .before .before .before .before .before .before .before .before), c .before .before .before .before .before .before .before .before .before .before .before .before .before .loop .inv .0, c .before .before .before .before .before .before .before .before .before .before .before .before .before .before .before .before .pre .1)
@@ -74,10 +74,10 @@ module _ (t : ℕ) where
       let a = c .before .before .before .before .before .before .before .before .before .before .before .before .before .before .before .before .before .args in
       let l = c .before .before .before .before .before .before .before .before .before .before .before .before .before .before .loop in
       let k = c .before .before .before .before .before .before .before .before .before .before .kind .given in (
-        omega (arith, fits (c .before .before .before .before .before .before .before .before .before), c .t .given .2, l .inv .0, c .before .before .before .before .before .before .walk-record .kept),
+        omega (arith, fits (c .before .before .before .before .before .before .before .before .before), c .t .given .2, l .inv .0, c .before .before .before .before .before .before .record .kept),
         l .inv .1 ∙ rw (repeat-step (front (recordOf (a .left) (a .role))) (front-local (recordOf (a .left) (a .role))) (l .t .now) (c .before .before .before .before .before .before .before .before .before .before .before .before .before .loop-test .taken))
             (front-on (noting (a .skip)) (l .at) (st (l .out) (l .count)) (recordOf (a .left) (a .role)) (repeat (front (recordOf (a .left) (a .role)))) (l .t .now) (k .0 .0) (k .0 .1 .0) (c .before .before .w .given .0 .0)
-            (c .before .before .before .before .before .before .before .before .before .before .before .before .read-head .ensures) (k .1) (c .before .before .before .before .before .before .walk-record .ensures) (c .before .before .w .given .1)),
+            (c .before .before .before .before .before .before .before .before .before .before .before .before .read-head .ensures) (k .1) (c .before .before .before .before .before .before .record .ensures) (c .before .before .w .given .1)),
       )
 
   finished : lts.Need-returns-3 (walk-list-uses t) (walk-list-at t) walk-list.Post Inv μ

@@ -1,4 +1,4 @@
--- `walk_else`: a flag, and a list if it is on. Assumes nothing.
+-- `else_arm`: a flag, and a list if it is on. Assumes nothing.
 use Prim.Native.Nat.{ℕ, _≤_}
 use native.Mathlib.Omega.{arith}
 use lib.ListN.{length}
@@ -8,9 +8,9 @@ use Rattle.records.specs.Work.{st, noting}
 use Rattle.records.specs.Grammar.{recordOf, ending, last, orElse}
 use Rattle.records.proofs.Walking.{flagged-refused, flagged-off, flagged-on, told-end}
 use borrow.Author.Needs.{needs}
-use Rattle.records.proofs.walk_else.Reads as walk-else
-use Rattle.records.proofs.+walk_arms+walk_assign+walk_body+walk_branches+walk_call+walk_choice+walk_conditional+walk_else+walk_exact+walk_first+walk_label+walk_last+walk_list+walk_lists+walk_options+walk_record+walk_set+walk_switch+walk_test.Lts-walk_else as lts
-use Rattle.records.proofs.+walk_arms+walk_assign+walk_body+walk_branches+walk_call+walk_choice+walk_conditional+walk_else+walk_exact+walk_first+walk_label+walk_last+walk_list+walk_lists+walk_options+walk_record+walk_set+walk_switch+walk_test.Proof.Base.{walk-else-at, walk-else-uses}
+use Rattle.records.proofs.walker.else_arm.Reads as walk-else
+use Rattle.records.proofs.walker.+arms+assign+body+branches+call+choice+conditional+else_arm+exact+first+label+last+list+lists+options+record+set+switch+test.Lts-else_arm as lts
+use Rattle.records.proofs.walker.+arms+assign+body+branches+call+choice+conditional+else_arm+exact+first+label+last+list+lists+options+record+set+switch+test.Proof.Base.{walk-else-at, walk-else-uses}
 
 module _ (t : ℕ) where
   off : (c : lts.After-enum-told (walk-else-uses t) (walk-else-at t) walk-else.Post) → 1 ≤ length (c .before .before .before .before .before .args .s .now)
@@ -25,17 +25,17 @@ module _ (t : ℕ) where
   on : (c : lts.After-enum-told2 (walk-else-uses t) (walk-else-at t) walk-else.Post) → 1 ≤ length (c .before .before .before .before .before .args .s .now)
   on c = on-fits (c .before .before .before .before .before .args .s .now) (c .before .before .read-flag .ensures) (c .enum-told2 .given .1)
 
-  sub-on : lts.Need-sub-walk-last (walk-else-uses t) (walk-else-at t) walk-else.Post
+  sub-on : lts.Need-sub-last (walk-else-uses t) (walk-else-at t) walk-else.Post
   sub-on c = on c
 
-  part-on : lts.Need-part-walk-last-start (walk-else-uses t) (walk-else-at t) walk-else.Post
+  part-on : lts.Need-part-last-start (walk-else-uses t) (walk-else-at t) walk-else.Post
   part-on c = omega (arith, on c)
 
-  add-on : lts.Need-add-walk-last (walk-else-uses t) (walk-else-at t) walk-else.Post
+  add-on : lts.Need-add-last (walk-else-uses t) (walk-else-at t) walk-else.Post
   add-on c = omega (arith, on (c .before), c .before .before .before .before .before .before .pre .1)
 
-  on-requires : lts.Need-walk-last-requires (walk-else-uses t) (walk-else-at t) walk-else.Post
-  on-requires c κs = omega (arith, on (c .before .before), c .before .walk-last-arg .given .2, c .before .before .before .before .before .before .before .pre .0, c .before .before .before .before .before .before .before .pre .1)
+  on-requires : lts.Need-last-requires (walk-else-uses t) (walk-else-at t) walk-else.Post
+  on-requires c κs = omega (arith, on (c .before .before), c .before .last-arg .given .2, c .before .before .before .before .before .before .before .pre .0, c .before .before .before .before .before .before .before .pre .1)
 
   by-off : lts.Need-returns (walk-else-uses t) (walk-else-at t) walk-else.Post
   unfolding orElse
@@ -47,7 +47,7 @@ module _ (t : ℕ) where
   unfolding orElse
   by-on c =
       let a = c .before .before .before .before .before .before .before .before .before .before .args in
-      rw (flagged-on (noting (a .skip)) (a .base) (st (a .out .now) (a .n)) ending (last Branch (recordOf (a .left))) (a .s .now) (c .before .before .before .before .before .before .before .read-flag .ensures) (c .before .before .before .before .before .enum-told2 .given .1)) (c .before .before .walk-last .ensures)
+      rw (flagged-on (noting (a .skip)) (a .base) (st (a .out .now) (a .n)) ending (last Branch (recordOf (a .left))) (a .s .now) (c .before .before .before .before .before .before .before .read-flag .ensures) (c .before .before .before .before .before .enum-told2 .given .1)) (c .before .before .last .ensures)
 
   refused : lts.Need-returns-3 (walk-else-uses t) (walk-else-at t) walk-else.Post
   unfolding orElse

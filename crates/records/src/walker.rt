@@ -1,0 +1,438 @@
+// The walker: reads the records of a list at every depth, counts them, and notes the place and tag of those in a window.
+ghost use mathlib.Core.Path.{_≡_};
+ghost use Prim.Native.Nat.{_+_, _<_, _^_};
+ghost use lib.ListN.{length};
+ghost use Rattle.fields.specs.declared.Role.the-variants as Role;
+ghost use Rattle.records.specs.Grammar.{recordOf, records, exact, ending, repeat, front, listed, named, flagged, last, orElse, arms, options, bodyOf, nothing, tested, branch, moded};
+ghost use Rattle.records.specs.Work.{run, st, noting, Told, endOf};
+use crate::Walk;
+use fields::Body;
+use fields::FlagRead;
+use fields::Head;
+use fields::Kinded;
+use fields::NameRead;
+use fields::Refusal;
+use fields::Role;
+use fields::Span;
+use fields::front_span;
+use fields::read_flag;
+use fields::read_head;
+use fields::read_kind;
+use fields::read_list;
+use fields::read_name;
+use fields::tag;
+use fields::test_span;
+
+// Record number n of a walk: noted in its slot, where the window has one for it. Answers the next number.
+fn note(role: Role, kind: u8, place: usize, skip: usize, out: &mut [u32], n: usize) -> usize
+    requires { ⌜ place < 2 ^ 32 ⌝ }
+    ensures { λ r. ⌜ st (now (out .exit)) r ≡ noting skip (st (now (out .entry)) n) role kind place ⌝ }
+{
+    let next = std::num::wrapping_add_usize(n, 1);
+    if n < skip {
+        return next;
+    }
+    let slot = n - skip;
+    if slot < out.len() / 2 {
+        let at = 2 * slot;
+        out[at] = place as u32;
+        out[at + 1] = tag(role, kind);
+        return next;
+    }
+    next
+}
+
+// Nothing is left.
+fn at_end(s: &[u8], n: usize) -> Walk
+    ensures { λ r. ⌜ r ≡ endOf n (now (s .entry)) ⌝ }
+{
+    if 0 < s.len() {
+        return Walk::Refused(Refusal::Short);
+    }
+    Walk::Done(n)
+}
+
+// A name, and nothing more.
+fn single(s: &[u8], base: usize, skip: usize, out: &mut [u32], n: usize) -> Walk
+    requires { ⌜ base + length (now s) < 2 ^ 32 ⌝ }
+    ensures { λ r. ⌜ Told (run (noting skip) base (st (now (out .entry)) n) (named ending (now (s .entry)))) r (now (out .exit)) ⌝ }
+{
+    let answer = read_name(s);
+    match answer {
+        NameRead::Refused(r) => Walk::Refused(r),
+        NameRead::Bytes(k) => {
+            let e = 1 + k;
+            at_end(&s[e..], n)
+        }
+    }
+}
+
+// A record of a role, by its kind.
+fn record(
+    s: &[u8],
+    role: Role,
+    kind: u8,
+    base: usize,
+    left: usize,
+    skip: usize,
+    out: &mut [u32],
+    n: usize,
+) -> Walk
+    requires { ⌜ base + 5 + length (now s) < 2 ^ 32 ⌝ }
+    ensures { λ r. ⌜ Told (run (noting skip) base (st (now (out .entry)) n) (recordOf left role kind (now (s .entry)))) r (now (out .exit)) ⌝ }
+{
+    let Kinded::Known(shape) = read_kind(role, kind) else {
+        return Walk::Refused(Refusal::Unknown);
+    };
+    if left == 0 {
+        return Walk::Refused(Refusal::Deep);
+    }
+    let m = note(role, kind, base, skip, out, n);
+    body(s, shape, base + 5, left - 1, skip, out, m)
+}
+
+// A payload.
+fn body(
+    s: &[u8],
+    body: Body,
+    base: usize,
+    left: usize,
+    skip: usize,
+    out: &mut [u32],
+    n: usize,
+) -> Walk
+    requires { ⌜ base + length (now s) < 2 ^ 32 ⌝ }
+    ensures { λ r. ⌜ Told (run (noting skip) base (st (now (out .entry)) n) (bodyOf body (recordOf left) (now (s .entry)))) r (now (out .exit)) ⌝ }
+{
+    match body {
+        Body::Exprs(many, role) => exact(s, many, role, base, left, skip, out, n),
+        Body::Single => single(s, base, skip, out, n),
+        Body::Call(role) => call(s, role, base, left, skip, out, n),
+        Body::Conditional => conditional(s, base, left, skip, out, n),
+        Body::Sequence => lists(s, base, left, skip, out, n),
+        Body::Switch => switch(s, base, left, skip, out, n),
+        Body::Assign => assign(s, base, left, skip, out, n),
+        Body::Choice => choice(s, base, left, skip, out, n),
+    }
+}
+
+// So many expressions of a role, and nothing more.
+fn exact(
+    s: &[u8],
+    many: u8,
+    role: Role,
+    base: usize,
+    left: usize,
+    skip: usize,
+    out: &mut [u32],
+    n: usize,
+) -> Walk
+    requires { ⌜ base + length (now s) < 2 ^ 32 ⌝ }
+    ensures { λ r. ⌜ Told (run (noting skip) base (st (now (out .entry)) n) (exact many (recordOf left role) (now (s .entry)))) r (now (out .exit)) ⌝ }
+{
+    if many == 0 {
+        return at_end(s, n);
+    }
+    let w = first(s, role, base, left, skip, out, n);
+    let Walk::Done(m) = w else {
+        return w;
+    };
+    let e = front_span(s);
+    exact(&s[e..], many - 1, role, base + e, left, skip, out, m)
+}
+
+// Records of a role to the end.
+pub fn list(
+    s: &[u8],
+    role: Role,
+    base: usize,
+    left: usize,
+    skip: usize,
+    out: &mut [u32],
+    n: usize,
+) -> Walk
+    requires { ⌜ base + length (now s) < 2 ^ 32 ⌝ }
+    ensures { λ r. ⌜ Told (run (noting skip) base (st (now (out .entry)) n) (records (recordOf left role) (now (s .entry)))) r (now (out .exit)) ⌝ }
+{
+    let mut t = s;
+    let mut at = base;
+    let mut count = n;
+    while 0 < t.len() {
+        let Head::Piece(kind, len) = read_head(t) else {
+            return Walk::Refused(Refusal::Short);
+        };
+        let e = 5 + len;
+        let w = record(&t[5..e], role, kind, at, left, skip, out, count);
+        let Walk::Done(m) = w else {
+            return w;
+        };
+        count = m;
+        at = at + e;
+        t = &t[e..];
+    }
+    Walk::Done(count)
+}
+
+// A name, and expressions of a role to the end.
+fn call(
+    s: &[u8],
+    role: Role,
+    base: usize,
+    left: usize,
+    skip: usize,
+    out: &mut [u32],
+    n: usize,
+) -> Walk
+    requires { ⌜ base + length (now s) < 2 ^ 32 ⌝ }
+    ensures { λ r. ⌜ Told (run (noting skip) base (st (now (out .entry)) n) (named (records (recordOf left role)) (now (s .entry)))) r (now (out .exit)) ⌝ }
+{
+    let answer = read_name(s);
+    match answer {
+        NameRead::Refused(r) => Walk::Refused(r),
+        NameRead::Bytes(k) => {
+            let e = 1 + k;
+            list(&s[e..], role, base + e, left, skip, out, n)
+        }
+    }
+}
+
+// A condition, a list of nodes, and perhaps another.
+fn conditional(s: &[u8], base: usize, left: usize, skip: usize, out: &mut [u32], n: usize) -> Walk
+    requires { ⌜ base + length (now s) < 2 ^ 32 ⌝ }
+    ensures { λ r. ⌜ Told (run (noting skip) base (st (now (out .entry)) n) (front (recordOf left Role.Cond) (arms (recordOf left)) (now (s .entry)))) r (now (out .exit)) ⌝ }
+{
+    let w = first(s, Role::Cond, base, left, skip, out, n);
+    let Walk::Done(m) = w else {
+        return w;
+    };
+    let e = front_span(s);
+    arms(&s[e..], base + e, left, skip, out, m)
+}
+
+// A list of nodes, and perhaps another.
+fn arms(s: &[u8], base: usize, left: usize, skip: usize, out: &mut [u32], n: usize) -> Walk
+    requires { ⌜ base + length (now s) < 2 ^ 32 ⌝ }
+    ensures { λ r. ⌜ Told (run (noting skip) base (st (now (out .entry)) n) (arms (recordOf left) (now (s .entry)))) r (now (out .exit)) ⌝ }
+{
+    let Span::Bytes(len) = read_list(s) else {
+        return Walk::Refused(Refusal::Short);
+    };
+    let e = 4 + len;
+    let w = list(&s[4..e], Role::Branch, base + 4, left, skip, out, n);
+    let Walk::Done(m) = w else {
+        return w;
+    };
+    else_arm(&s[e..], base + e, left, skip, out, m)
+}
+
+// A flag, and a list of nodes if it is 1.
+fn else_arm(s: &[u8], base: usize, left: usize, skip: usize, out: &mut [u32], n: usize) -> Walk
+    requires { ⌜ base + length (now s) < 2 ^ 32 ⌝ }
+    ensures { λ r. ⌜ Told (run (noting skip) base (st (now (out .entry)) n) (orElse (recordOf left) (now (s .entry)))) r (now (out .exit)) ⌝ }
+{
+    let flag = read_flag(s);
+    match flag {
+        FlagRead::Off => at_end(&s[1..], n),
+        FlagRead::On => last(&s[1..], Role::Branch, base + 1, left, skip, out, n),
+        FlagRead::Refused(r) => Walk::Refused(r),
+    }
+}
+
+// A list of nodes, and nothing more.
+fn last(
+    s: &[u8],
+    role: Role,
+    base: usize,
+    left: usize,
+    skip: usize,
+    out: &mut [u32],
+    n: usize,
+) -> Walk
+    requires { ⌜ base + length (now s) < 2 ^ 32 ⌝ }
+    ensures { λ r. ⌜ Told (run (noting skip) base (st (now (out .entry)) n) (last role (recordOf left) (now (s .entry)))) r (now (out .exit)) ⌝ }
+{
+    let Span::Bytes(len) = read_list(s) else {
+        return Walk::Refused(Refusal::Short);
+    };
+    let e = 4 + len;
+    let w = list(&s[4..e], role, base + 4, left, skip, out, n);
+    let Walk::Done(m) = w else {
+        return w;
+    };
+    at_end(&s[e..], m)
+}
+
+// Lists of nodes to the end.
+fn lists(s: &[u8], base: usize, left: usize, skip: usize, out: &mut [u32], n: usize) -> Walk
+    requires { ⌜ base + length (now s) < 2 ^ 32 ⌝ }
+    ensures { λ r. ⌜ Told (run (noting skip) base (st (now (out .entry)) n) (repeat (listed (recordOf left Role.Node)) (now (s .entry)))) r (now (out .exit)) ⌝ }
+{
+    let mut t = s;
+    let mut at = base;
+    let mut count = n;
+    while 0 < t.len() {
+        let Span::Bytes(len) = read_list(t) else {
+            return Walk::Refused(Refusal::Short);
+        };
+        let e = 4 + len;
+        let w = list(&t[4..e], Role::Node, at + 4, left, skip, out, count);
+        let Walk::Done(m) = w else {
+            return w;
+        };
+        count = m;
+        at = at + e;
+        t = &t[e..];
+    }
+    Walk::Done(count)
+}
+
+// A flag, a label if it is 1, conditions and nodes.
+fn choice(s: &[u8], base: usize, left: usize, skip: usize, out: &mut [u32], n: usize) -> Walk
+    requires { ⌜ base + length (now s) < 2 ^ 32 ⌝ }
+    ensures { λ r. ⌜ Told (run (noting skip) base (st (now (out .entry)) n) (flagged (options (recordOf left)) (named (options (recordOf left))) (now (s .entry)))) r (now (out .exit)) ⌝ }
+{
+    let flag = read_flag(s);
+    match flag {
+        FlagRead::Off => options(&s[1..], base + 1, left, skip, out, n),
+        FlagRead::On => label(&s[1..], base + 1, left, skip, out, n),
+        FlagRead::Refused(r) => Walk::Refused(r),
+    }
+}
+
+// A label, conditions and nodes.
+fn label(s: &[u8], base: usize, left: usize, skip: usize, out: &mut [u32], n: usize) -> Walk
+    requires { ⌜ base + length (now s) < 2 ^ 32 ⌝ }
+    ensures { λ r. ⌜ Told (run (noting skip) base (st (now (out .entry)) n) (named (options (recordOf left)) (now (s .entry)))) r (now (out .exit)) ⌝ }
+{
+    let answer = read_name(s);
+    match answer {
+        NameRead::Refused(r) => Walk::Refused(r),
+        NameRead::Bytes(k) => {
+            let e = 1 + k;
+            options(&s[e..], base + e, left, skip, out, n)
+        }
+    }
+}
+
+// A list of conditions, and a list of nodes.
+fn options(s: &[u8], base: usize, left: usize, skip: usize, out: &mut [u32], n: usize) -> Walk
+    requires { ⌜ base + length (now s) < 2 ^ 32 ⌝ }
+    ensures { λ r. ⌜ Told (run (noting skip) base (st (now (out .entry)) n) (options (recordOf left) (now (s .entry)))) r (now (out .exit)) ⌝ }
+{
+    let Span::Bytes(len) = read_list(s) else {
+        return Walk::Refused(Refusal::Short);
+    };
+    let e = 4 + len;
+    let w = list(&s[4..e], Role::Cond, base + 4, left, skip, out, n);
+    let Walk::Done(m) = w else {
+        return w;
+    };
+    last(&s[e..], Role::Node, base + e, left, skip, out, m)
+}
+
+// An expression, and branches to the end.
+fn switch(s: &[u8], base: usize, left: usize, skip: usize, out: &mut [u32], n: usize) -> Walk
+    requires { ⌜ base + length (now s) < 2 ^ 32 ⌝ }
+    ensures { λ r. ⌜ Told (run (noting skip) base (st (now (out .entry)) n) (front (recordOf left Role.Visited) (repeat (branch (recordOf left))) (now (s .entry)))) r (now (out .exit)) ⌝ }
+{
+    let w = first(s, Role::Visited, base, left, skip, out, n);
+    let Walk::Done(m) = w else {
+        return w;
+    };
+    let e = front_span(s);
+    branches(&s[e..], base + e, left, skip, out, m)
+}
+
+// Branches to the end: a flag, an expression if it is 1, a list of nodes.
+fn branches(s: &[u8], base: usize, left: usize, skip: usize, out: &mut [u32], n: usize) -> Walk
+    requires { ⌜ base + length (now s) < 2 ^ 32 ⌝ }
+    ensures { λ r. ⌜ Told (run (noting skip) base (st (now (out .entry)) n) (repeat (branch (recordOf left)) (now (s .entry)))) r (now (out .exit)) ⌝ }
+{
+    let mut t = s;
+    let mut at = base;
+    let mut count = n;
+    while 0 < t.len() {
+        let w = test(t, at, left, skip, out, count);
+        let Walk::Done(m) = w else {
+            return w;
+        };
+        let e = test_span(t);
+        let u = &t[e..];
+        let p = at + e;
+        let Span::Bytes(len) = read_list(u) else {
+            return Walk::Refused(Refusal::Short);
+        };
+        let d = 4 + len;
+        let x = list(&u[4..d], Role::Branch, p + 4, left, skip, out, m);
+        let Walk::Done(q) = x else {
+            return x;
+        };
+        count = q;
+        at = p + d;
+        t = &u[d..];
+    }
+    Walk::Done(count)
+}
+
+// A flag, and an expression if it is 1.
+fn test(s: &[u8], base: usize, left: usize, skip: usize, out: &mut [u32], n: usize) -> Walk
+    requires { ⌜ base + length (now s) < 2 ^ 32 ⌝ }
+    ensures { λ r. ⌜ Told (run (noting skip) base (st (now (out .entry)) n) (tested (recordOf left) nothing (now (s .entry)))) r (now (out .exit)) ⌝ }
+{
+    let flag = read_flag(s);
+    match flag {
+        FlagRead::Off => Walk::Done(n),
+        FlagRead::On => first(&s[1..], Role::Visited, base + 1, left, skip, out, n),
+        FlagRead::Refused(r) => Walk::Refused(r),
+    }
+}
+
+// The record of a role at the front.
+fn first(
+    s: &[u8],
+    role: Role,
+    base: usize,
+    left: usize,
+    skip: usize,
+    out: &mut [u32],
+    n: usize,
+) -> Walk
+    requires { ⌜ base + length (now s) < 2 ^ 32 ⌝ }
+    ensures { λ r. ⌜ Told (run (noting skip) base (st (now (out .entry)) n) (front (recordOf left role) nothing (now (s .entry)))) r (now (out .exit)) ⌝ }
+{
+    let Head::Piece(kind, len) = read_head(s) else {
+        return Walk::Refused(Refusal::Short);
+    };
+    let e = 5 + len;
+    record(&s[5..e], role, kind, base, left, skip, out, n)
+}
+
+// A mode, a name and an expression.
+fn assign(s: &[u8], base: usize, left: usize, skip: usize, out: &mut [u32], n: usize) -> Walk
+    requires { ⌜ base + length (now s) < 2 ^ 32 ⌝ }
+    ensures { λ r. ⌜ Told (run (noting skip) base (st (now (out .entry)) n) (moded (named (exact 1 (recordOf left Role.Visited))) (now (s .entry)))) r (now (out .exit)) ⌝ }
+{
+    if s.len() < 1 {
+        return Walk::Refused(Refusal::Short);
+    }
+    let mode = s[0];
+    match mode {
+        0..=3 => set(&s[1..], base + 1, left, skip, out, n),
+        4..=255 => Walk::Refused(Refusal::Unknown),
+    }
+}
+
+// A name and an expression.
+fn set(s: &[u8], base: usize, left: usize, skip: usize, out: &mut [u32], n: usize) -> Walk
+    requires { ⌜ base + length (now s) < 2 ^ 32 ⌝ }
+    ensures { λ r. ⌜ Told (run (noting skip) base (st (now (out .entry)) n) (named (exact 1 (recordOf left Role.Visited)) (now (s .entry)))) r (now (out .exit)) ⌝ }
+{
+    let answer = read_name(s);
+    match answer {
+        NameRead::Refused(r) => Walk::Refused(r),
+        NameRead::Bytes(k) => {
+            let e = 1 + k;
+            exact(&s[e..], 1, Role::Visited, base + e, left, skip, out, n)
+        }
+    }
+}
