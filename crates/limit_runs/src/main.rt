@@ -1,0 +1,323 @@
+// Builds stories at the limits in a buffer, checks each, and writes its line and its number of entries.
+use lines::line;
+use validator::Answer;
+use validator::check;
+
+// The name of the knot, and one that no story here has.
+const KNOT: u8 = 107;
+
+const ELSEWHERE: u8 = 120;
+
+// The bytes that the message buffer wants, and the numbers that the index of a file of 524,288 bytes wants.
+const MESSAGE: usize = 640;
+
+const NUMBERS: usize = 1572804;
+
+// The number of bytes of an answer's text.
+fn text_length(answer: Answer) -> usize {
+    match answer {
+        Answer::Accepted(_) => 0,
+        Answer::Breached(b) => b.message,
+        Answer::Unreadable(_) => 0,
+        Answer::ShortIndex => 0,
+        Answer::ShortMessage => 0,
+    }
+}
+
+// Writes the first n bytes to standard output, where there are so many.
+fn print_start(bytes: &[u8], n: usize) {
+    if n <= bytes.len() {
+        io::write_all(1, &bytes[0..n]);
+    }
+}
+
+// Writes the line of an answer with its text.
+fn print_line(answer: Answer, text: &[u8], out: &mut [u8]) {
+    if 640 < text.len() {
+        return;
+    }
+    if out.len() < 700 {
+        return;
+    }
+    let n = line(answer, text, out);
+    print_start(out, n);
+}
+
+// Writes the line of an answer, its text at the start of the message buffer.
+fn print_answer(answer: Answer, message: &[u8], out: &mut [u8]) {
+    let n = text_length(answer);
+    if n <= message.len() {
+        print_line(answer, &message[0..n], out);
+    }
+}
+
+// Writes a number of entries.
+fn print_count(n: usize) {
+    io::write_all(1, b"entries ");
+    io::print_decimal(1, n as u64);
+    io::write_all(1, b"\n");
+}
+
+// Writes the number of entries of an answer; a refusal has none.
+fn print_entries(answer: Answer) {
+    match answer {
+        Answer::Accepted(n) => print_count(n),
+        Answer::Breached(b) => print_count(b.entries),
+        Answer::Unreadable(_) => {}
+        Answer::ShortIndex => {}
+        Answer::ShortMessage => {}
+    }
+}
+
+// Checks a file, and writes its line and its number of entries.
+fn print_file(file: &[u8], index: &mut [u32], message: &mut [u8], out: &mut [u8]) {
+    let answer = check(file, index, message);
+    print_answer(answer, message, out);
+    print_entries(answer);
+}
+
+// Checks so many bytes of a buffer with so many of the index and of the message buffer, where there are so many.
+fn print_lent(
+    space: &[u8],
+    length: usize,
+    index: &mut [u32],
+    numbers: usize,
+    message: &mut [u8],
+    bytes: usize,
+    out: &mut [u8],
+) {
+    if space.len() < length {
+        return;
+    }
+    if index.len() < numbers {
+        return;
+    }
+    if message.len() < bytes {
+        return;
+    }
+    print_file(
+        &space[0..length],
+        &mut index[0..numbers],
+        &mut message[0..bytes],
+        out,
+    );
+}
+
+// Puts a byte at a place, where it is there, and answers the place after it.
+fn put_byte(space: &mut [u8], at: usize, byte: u8) -> usize {
+    if at < space.len() {
+        space[at] = byte;
+        return at + 1;
+    }
+    at
+}
+
+// Puts a number below 2^32 into four bytes, little-endian, and answers the place after them.
+fn put_number(space: &mut [u8], at: usize, n: usize) -> usize {
+    let second = put_byte(space, at, (n % 256) as u8);
+    let third = put_byte(space, second, (n / 256 % 256) as u8);
+    let fourth = put_byte(space, third, (n / 65536 % 256) as u8);
+    put_byte(space, fourth, (n / 16777216 % 256) as u8)
+}
+
+// Puts at `start` how many bytes stand behind its four, up to `end`.
+fn put_length(space: &mut [u8], start: usize, end: usize) {
+    if start < end {
+        if 4 <= end - start {
+            put_number(space, start, end - start - 4);
+        }
+    }
+}
+
+// Puts so many zeros, and answers the place after them. Each is an empty name.
+fn put_zeros(space: &mut [u8], start: usize, n: usize) -> usize {
+    let mut at = start;
+    let mut left = n;
+    while 0 < left {
+        at = put_byte(space, at, 0);
+        left -= 1;
+    }
+    at
+}
+
+// Puts a name of one letter.
+fn put_name(space: &mut [u8], at: usize, letter: u8) -> usize {
+    let next = put_byte(space, at, 1);
+    put_byte(space, next, letter)
+}
+
+// Puts the kind and the payload length of a record.
+fn put_head(space: &mut [u8], at: usize, kind: u8, length: usize) -> usize {
+    let next = put_byte(space, at, kind);
+    put_number(space, next, length)
+}
+
+// Puts a record with a name of one letter: a divert, of kind 3, or a gather label, of kind 15.
+fn put_record(space: &mut [u8], at: usize, kind: u8, letter: u8) -> usize {
+    let next = put_head(space, at, kind, 2);
+    put_name(space, next, letter)
+}
+
+// Puts so many diverts to the knot.
+fn put_diverts(space: &mut [u8], start: usize, n: usize) -> usize {
+    let mut at = start;
+    let mut left = n;
+    while 0 < left {
+        at = put_record(space, at, 3, KNOT);
+        left -= 1;
+    }
+    at
+}
+
+// Puts records one inside the other, of so many bytes below the outermost: an output, negations and a constant.
+fn put_nested(space: &mut [u8], start: usize, below: usize) -> usize {
+    let mut at = start;
+    let mut kind = 2;
+    let mut left = below;
+    while 5 <= left {
+        at = put_head(space, at, kind, left);
+        kind = 3;
+        left -= 5;
+    }
+    put_head(space, at, 0, 0)
+}
+
+// Puts a list: so many diverts to the knot, and a last one.
+fn put_list(space: &mut [u8], at: usize, n: usize, last: u8) -> usize {
+    let first = put_number(space, at, 0);
+    let after = put_diverts(space, first, n);
+    let end = put_record(space, after, 3, last);
+    put_length(space, at, end);
+    end
+}
+
+// Puts what a flow and a stitch have in common: a name, no parameters, no divert parameters, a list.
+fn put_named_list(space: &mut [u8], at: usize, name: u8, n: usize, last: u8) -> usize {
+    let params = put_name(space, at, name);
+    let list = put_zeros(space, params, 2);
+    put_list(space, list, n, last)
+}
+
+// Puts a stitch of the knot.
+fn put_stitch(space: &mut [u8], at: usize, n: usize, last: u8) -> usize {
+    let name = put_number(space, at, 0);
+    let end = put_named_list(space, name, 115, n, last);
+    put_length(space, at, end);
+    end
+}
+
+// Puts the knot, with one stitch; both have so many diverts to the knot and a last one.
+fn put_knot(space: &mut [u8], at: usize, n: usize, last: u8, stitch_last: u8) -> usize {
+    let flag = put_number(space, at, 0);
+    let name = put_byte(space, flag, 0);
+    let stitch = put_named_list(space, name, KNOT, n, last);
+    let end = put_stitch(space, stitch, n, stitch_last);
+    put_length(space, at, end);
+    end
+}
+
+// Puts the trailer of a file without externals, and answers the file's length.
+fn put_trailer(space: &mut [u8], at: usize, root: usize, flows: usize) -> usize {
+    let second = put_number(space, at, 0);
+    let third = put_number(space, second, root);
+    let fourth = put_number(space, third, root);
+    let mark = put_number(space, fourth, flows);
+    put_number(space, mark, 84809)
+}
+
+// Puts a story: empty globals, so many diverts in the root, the knot and the stitch, a last one in the stitch. Answers its length.
+fn put_story(space: &mut [u8], globals: usize, n: usize, last: u8) -> usize {
+    let root = put_zeros(space, 0, globals);
+    let flows = put_diverts(space, root, n);
+    let end = put_knot(space, flows, n, KNOT, last);
+    put_trailer(space, end, root, flows)
+}
+
+// Puts a story of empty globals alone. The index for 1,048,576 bytes is larger than a stack of 8 MiB: the file is read, and refused by 7.
+fn put_globals(space: &mut [u8], n: usize) -> usize {
+    let end = put_zeros(space, 0, n);
+    put_trailer(space, end, end, end)
+}
+
+// Puts a story whose root has records one inside the other.
+fn put_deep(space: &mut [u8], below: usize) -> usize {
+    let end = put_nested(space, 0, below);
+    put_trailer(space, end, 0, end)
+}
+
+// Puts a story whose root has a gather label twice, and whose knot has a wrong divert.
+fn put_gathers(space: &mut [u8]) -> usize {
+    let second = put_record(space, 0, 15, 97);
+    let flows = put_record(space, second, 15, 97);
+    let end = put_knot(space, flows, 0, ELSEWHERE, KNOT);
+    put_trailer(space, end, 0, flows)
+}
+
+// Puts the story of a case: 2,047 to 2,049 records in a stitch; depths 64 and 65; gathers; 1,048,576 bytes and one more; 524,288 bytes.
+fn put_case(case: u8, space: &mut [u8]) -> usize {
+    match case {
+        0 => put_story(space, 0, 2046, ELSEWHERE),
+        1 => put_story(space, 0, 2047, ELSEWHERE),
+        2 => put_story(space, 0, 2048, ELSEWHERE),
+        3 => put_deep(space, 315),
+        4 => put_deep(space, 320),
+        5 => put_gathers(space),
+        6 => put_globals(space, 1048556),
+        7 => put_globals(space, 1048557),
+        8..=10 => put_story(space, 279, 24950, KNOT),
+        11..=255 => put_story(space, 279, 24950, ELSEWHERE),
+    }
+}
+
+// The numbers of the index that a case lends: one short in case 9.
+fn numbers_of(case: u8) -> usize {
+    if case == 9 {
+        return NUMBERS - 1;
+    }
+    NUMBERS
+}
+
+// The bytes of the message buffer that a case lends: one short in case 10.
+fn bytes_of(case: u8) -> usize {
+    if case == 10 {
+        return MESSAGE - 1;
+    }
+    MESSAGE
+}
+
+// Builds the story of a case, checks it, and writes its line.
+fn print_case(case: u8, space: &mut [u8], index: &mut [u32], message: &mut [u8], out: &mut [u8]) {
+    let length = put_case(case, space);
+    print_lent(
+        space,
+        length,
+        index,
+        numbers_of(case),
+        message,
+        bytes_of(case),
+        out,
+    );
+}
+
+// Writes the lines of all cases.
+fn print_cases(space: &mut [u8], index: &mut [u32], message: &mut [u8], out: &mut [u8]) {
+    let mut case: u8 = 0;
+    while case < 12 {
+        print_case(case, space, index, message, out);
+        case += 1;
+    }
+}
+
+// Lends two arrays on.
+fn lend(space: &mut [u8; 1048577], index: &mut [u32; NUMBERS], message: &mut [u8], out: &mut [u8]) {
+    print_cases(space, index, message, out);
+}
+
+// Lends the buffers.
+fn main() {
+    let mut space = [0u8; 1048577];
+    let mut index = [0u32; NUMBERS];
+    let mut message = [0u8; MESSAGE];
+    let mut out = [0u8; 704];
+    lend(&mut space, &mut index, &mut message, &mut out);
+}
