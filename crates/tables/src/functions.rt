@@ -8,6 +8,7 @@ ghost use Rattle.searches.specs.Called.{isFunction};
 ghost use Rattle.tables.specs.Functions.{withFlow, Functions};
 use crate::clear;
 use crate::hashes::hash_of;
+use crate::hashes::slot_of;
 use names::name_at;
 use names::same_at;
 use searches::is_function_name;
@@ -23,7 +24,7 @@ fn put_flow(file: &[u8], v: FlowView, table: &mut [u32])
     ensures { λ _. ⌜ now (table .exit) ≡ withFlow (now (file .entry)) v (now (table .entry)) ⌝ }
 {
     if v.function {
-        let slot = hash_of(name_at(file, v.name)) % table.len();
+        let slot = slot_of(hash_of(name_at(file, v.name)), table.len());
         table[slot] = (v.name + 1) as u32;
     }
 }
@@ -66,7 +67,7 @@ pub fn is_function_in(file: &[u8], c: Sections, table: &[u32], name: &[u8]) -> b
     if table.len() == 0 {
         return is_function_listed(file, c, name);
     }
-    let slot = hash_of(name) % table.len();
+    let slot = slot_of(hash_of(name), table.len());
     let number = table[slot] as usize;
     if number == 0 {
         return false;

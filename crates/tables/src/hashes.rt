@@ -1,5 +1,6 @@
 // Hashes of words.
 ghost use mathlib.Core.Path.{_≡_};
+ghost use Prim.Native.Nat.{_%_, _<_};
 ghost use Rattle.tables.specs.Hashes.{hashOn, hashOf};
 
 // The hash of a word that goes on from another hash.
@@ -20,4 +21,12 @@ pub fn hash_of(word: &[u8]) -> usize
     ensures { λ r. ⌜ r ≡ hashOf (now (word .entry)) ⌝ }
 {
     hash_on(5381, word)
+}
+
+// The slot of a hash in a table of so many slots.
+pub fn slot_of(hash: usize, slots: usize) -> usize
+    requires { ⌜ 0 < slots ⌝ }
+    ensures { λ r. ⌜ (r ≡ hash % slots) × (r < slots) ⌝ }
+{
+    hash % slots
 }

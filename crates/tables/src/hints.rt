@@ -10,6 +10,7 @@ ghost use Rattle.tables.specs.Hints.{rowAt, Answered};
 use crate::clear;
 use crate::hashes::hash_of;
 use crate::hashes::hash_on;
+use crate::hashes::slot_of;
 use names::name_at;
 use symbols::ABSENT;
 use symbols::Fit;
@@ -37,7 +38,7 @@ fn put_hint(table: &mut [u32], hash: usize, number: u32) {
     if table.len() == 0 {
         return;
     }
-    let mut slot = hash % table.len();
+    let mut slot = slot_of(hash, table.len());
     let mut left = TRIES;
     while 0 < left {
         if table[slot] == 0 {
@@ -144,7 +145,7 @@ fn find_in_slots(
     if table.len() == 0 {
         return false;
     }
-    let mut slot = hash % table.len();
+    let mut slot = slot_of(hash, table.len());
     let mut left = TRIES;
     while 0 < left {
         let number = table[slot] as usize;
