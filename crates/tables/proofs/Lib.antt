@@ -3,3 +3,4 @@ pub mod Hashing
 pub mod Tables
 pub mod Filling
 pub mod Asked
+pub mod Answering

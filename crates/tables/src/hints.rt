@@ -65,18 +65,21 @@ fn hash_entry(file: &[u8], p: Places) -> usize {
     hash_on(stitch, name_at(file, p.own as usize))
 }
 
-// How many entries have hints: those that the index has, at most as many as a file has bytes.
-fn entry_count(index: &[u32], count: usize) -> usize
-    ensures { λ r. ⌜ (3 * r ≤ length (now (index .entry))) × (r ≤ 1048576) ⌝ }
+// The smaller of two numbers.
+fn smaller(a: usize, b: usize) -> usize
+    ensures { λ r. ⌜ (r ≤ a) × (r ≤ b) ⌝ }
 {
-    let rows = index.len() / 3;
-    if 1048576 < rows {
-        return 1048576;
+    if a < b {
+        return a;
     }
-    if count < rows {
-        return count;
-    }
-    rows
+    b
+}
+
+// How many entries have hints: as many as are counted and stand in the index, at most as many as a file has bytes.
+fn entry_count(index: &[u32], count: usize) -> usize
+    ensures { λ r. ⌜ (r ≤ length (now (index .entry)) / 3) × (r ≤ 1048576) ⌝ }
+{
+    smaller(smaller(count, 1048576), index.len() / 3)
 }
 
 // Entry number k of the index.
