@@ -1,9 +1,8 @@
 -- What the table of functions answers of a name. Assumes nothing.
-use mathlib.Core.Path.{_≡_, refl, sym, _∙_, ap}
+use mathlib.Core.Path.{_≡_, sym}
 use mathlib.Core.Bool.{Bool, true, false}
 use mathlib.Core.List.{List}
 use Prim.Native.Nat.{ℕ, _-_, _%_, _<_}
-use lib.Dec.{T}
 use lib.ListN.{length, getD, take, drop}
 use Rattle.names.specs.Words.{Bytes, same, any}
 use Rattle.names.specs.Counted.{nameAt}

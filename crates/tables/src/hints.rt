@@ -1,7 +1,7 @@
 // Tables of entry numbers by the hash of a spelling. What a table says is a guess: it is compared with the entry before it is believed.
 ghost use mathlib.Core.Path.{_≡_};
 ghost use mathlib.Core.Bool.{true};
-ghost use Prim.Native.Nat.{_*_, _/_, _≤_, _<_};
+ghost use Prim.Native.Nat.{_/_, _≤_, _<_};
 ghost use lib.ListN.{length};
 ghost use Rattle.names.specs.Words.{any};
 ghost use Rattle.symbols.specs.Fits.{answers};

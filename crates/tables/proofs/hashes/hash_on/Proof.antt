@@ -1,5 +1,5 @@
 -- `tables::hashes::hash_on` meets its contract. The loop's invariant: what is left of the word goes on from the hash. Assumes nothing.
-use Prim.Native.Nat.{_-_, _≤_}
+use Prim.Native.Nat.{_-_}
 use native.Mathlib.Omega.{arith}
 use lib.ListN.{length}
 use Rattle.tables.proofs.Hashing.{Hashing, hashing-start, hashing-next, hashing-end}
