@@ -1,0 +1,78 @@
+-- `tables::functions::put_functions` meets its contract. The loop's invariant: the flows from `at` on can be read, and the table has
+-- those before. Assumes nothing.
+use mathlib.Core.Path.{_≡_, refl}
+use Prim.Native.Nat.{_≤_, _-_}
+use native.Mathlib.Omega.{arith}
+use lib.ListN.{length}
+use Rattle.records.specs.Trace.{well, ends}
+use Rattle.story.specs.Flows.{part, flows, flowsIn}
+use Rattle.story.proofs.Readable.{readable}
+use Rattle.searches.proofs.Viewed.{flow-viewed, flow-laid}
+use Rattle.searches.proofs.Readable.{no-flow, flow-readable}
+use Rattle.tables.proofs.Filling.{Filling, filling-start, filling-next, filling-end, no-slots}
+use borrow.Author.Needs.{needs}
+use Rattle.tables.proofs.functions.put_functions.Statement.{statement}
+use Rattle.tables.proofs.functions.put_functions.Tie as tie
+
+abbrev Inv-loop : tie.InvT-loop
+Inv-loop file c table₀ at₀ table at =
+    ((at ≤ c .end) × (length table ≡ length table₀))
+    × (ends (flows (part at (c .end) file)) ≡ well)
+    × Filling file (flowsIn (c .flows) (part (c .flows) (c .end) file)) (flowsIn at (part at (c .end) file)) table
+
+abbrev μ-loop : tie.MeasureT-loop
+μ-loop file c table₀ at₀ table at = c .end - at
+
+returns : tie.Need-returns Inv-loop μ-loop
+returns c = no-slots _ _ _ (c .before .before .before .clear .ensures) (c .if1 .taken)
+
+loop-holds : tie.Need-loop-holds Inv-loop μ-loop
+loop-holds c =
+    let r = readable (c .before .before .before .before .before .before .before .args .file .now) (c .before .before .before .before .before .before .before .args .c) refl (c .before .before .before .before .before .before .before .pre) in
+    ((r .order .flows, refl), r .flows, filling-start (omega arith) (c .before .before .before .clear .ensures))
+
+flow-view-requires : tie.Need-flow-view-requires Inv-loop μ-loop
+flow-view-requires c κs = let r = readable (c .before .before .before .before .before .before .before .before .args .file .now) (c .before .before .before .before .before .before .before .before .args .c) refl (c .before .before .before .before .before .before .before .before .pre) .order in omega arith
+
+returns-2 : tie.Need-returns-2 Inv-loop μ-loop
+returns-2 c = filling-end _ _ _ (c .before .before .before .loop .inv .2) (no-flow (c .before .before .before .before .before .before .before .before .before .before .before .args .file .now) (c .before .before .before .loop .at) (c .before .before .before .before .before .before .before .before .before .before .before .args .c .end) (c .before .before .before .loop .inv .1) (c .before .before .flow-view .ensures) (c .enum-told .given .1))
+
+put-flow-requires : tie.Need-put-flow-requires Inv-loop μ-loop
+put-flow-requires c κs =
+    let l = flow-laid (c .before .before .before .before .before .before .before .before .before .before .before .before .before .args .file .now) (c .before .before .before .before .before .loop .at) (c .before .before .before .before .before .before .before .before .before .before .before .before .before .args .c .end) (c .before .before .v .given .0 .0) (c .before .before .before .before .flow-view .ensures) (c .before .before .v .given .1) in
+    let r = readable (c .before .before .before .before .before .before .before .before .before .before .before .before .before .args .file .now) (c .before .before .before .before .before .before .before .before .before .before .before .before .before .args .c) refl (c .before .before .before .before .before .before .before .before .before .before .before .before .before .pre) .order in
+    omega (arith, c .before .before .before .before .before .loop .inv .2 .room)
+
+loop-less : tie.Need-loop-less Inv-loop μ-loop
+loop-less c =
+    let l = flow-laid (c .before .before .before .before .before .before .before .before .before .before .before .before .before .before .before .before .args .file .now) (c .before .before .before .before .before .before .before .before .loop .at) (c .before .before .before .before .before .before .before .before .before .before .before .before .before .before .before .before .args .c .end) (c .before .before .before .before .before .v .given .0 .0) (c .before .before .before .before .before .before .before .flow-view .ensures) (c .before .before .before .before .before .v .given .1) in
+    omega (arith, c .before .before .before .before .before .before .before .before .loop .inv .0)
+
+loop-again : tie.Need-loop-again Inv-loop μ-loop
+loop-again c =
+    let l = flow-laid (c .before .before .before .before .before .before .before .before .before .before .before .before .before .before .before .before .args .file .now) (c .before .before .before .before .before .before .before .before .loop .at) (c .before .before .before .before .before .before .before .before .before .before .before .before .before .before .before .before .args .c .end) (c .before .before .before .before .before .v .given .0 .0) (c .before .before .before .before .before .before .before .flow-view .ensures) (c .before .before .before .before .before .v .given .1) in (
+      omega (arith, c .before .before .before .before .before .before .before .before .loop .inv .0),
+      flow-readable (c .before .before .before .before .before .before .before .before .before .before .before .before .before .before .before .before .args .file .now) (c .before .before .before .before .before .before .before .before .loop .at) (c .before .before .before .before .before .before .before .before .before .before .before .before .before .before .before .before .args .c .end) (c .before .before .before .before .before .before .before .before .loop .inv .1) (c .before .before .before .before .before .before .before .flow-view .ensures) (c .before .before .before .before .before .v .given .0 .0) (c .before .before .before .before .before .v .given .1) .rest,
+      filling-next (c .before .before .before .before .before .before .before .before .loop .inv .2) (c .before .before .before .before .before .v .given .0 .0)
+          (flow-viewed (c .before .before .before .before .before .before .before .before .before .before .before .before .before .before .before .before .args .file .now) (c .before .before .before .before .before .before .before .before .loop .at) (c .before .before .before .before .before .before .before .before .before .before .before .before .before .before .before .before .args .c .end) (c .before .before .before .before .before .v .given .0 .0) (c .before .before .before .before .before .before .before .flow-view .ensures) (c .before .before .before .before .before .v .given .1))
+          (c .before .before .put-flow .ensures),
+    )
+
+pub put-functions-spec : {M : Type 1} → statement M
+put-functions-spec =
+    tie.close
+    (tie.spec
+    Inv-loop
+    μ-loop
+    (λ c κs. search needs)
+    (λ c. search needs)
+    returns
+    loop-holds
+    flow-view-requires
+    (λ c. search needs)
+    (λ c. search needs)
+    (λ c. search needs)
+    returns-2
+    put-flow-requires
+    loop-less
+    loop-again)

@@ -1,0 +1,4 @@
+pub mod Hashes
+pub mod Tables
+pub mod Functions
+pub mod Hints
