@@ -9,12 +9,12 @@ use Rattle.checks.specs.Context.{declaredAt}
 use Rattle.filters.specs.Words.{addedAll, sortNamed, Covers}
 
 -- the filter lacks no parameter and no temp of the flow or the stitch with these parameters and this body
-abbrev pub Declared : List ℕ → ℕ → ℕ → ℕ → List ℕ → Type 0
-Declared file params from to filter = Covers filter (declaredAt file params from to)
+pub record Declared (file : List ℕ) (params from to : ℕ) (filter : List ℕ) : Type 0 where
+  pub covers : Covers filter (declaredAt file params from to)
 
 -- the filter lacks no gather before item number i of the body
-abbrev pub Gathered : List ℕ → ℕ → ℕ → ℕ → List ℕ → Type 0
-Gathered file from to i filter = Covers filter (gatherAmong (take i (whats (bodyIn file from to))))
+pub record Gathered (file : List ℕ) (from to i : ℕ) (filter : List ℕ) : Type 0 where
+  pub covers : Covers filter (gatherAmong (take i (whats (bodyIn file from to))))
 
 -- the filter after an item was passed: a gather's name is added
 unfoldable pub passed : List ℕ → What → List ℕ

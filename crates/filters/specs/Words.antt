@@ -8,14 +8,14 @@ use lib.ListN.{length, getD, set}
 use Rattle.names.specs.Words.{Bytes, only, one-of}
 use Rattle.story.specs.Story.{What, code}
 
--- the number of a word, where the bytes before it have the number h
-unfoldable pub numberFrom : ℕ → Bytes → ℕ
-numberFrom h [] = h
-numberFrom h (b ∷ w) = numberFrom ((h * 33 + b) % 1048576) w
+-- the hash of a word, where h is that of the bytes before it
+unfoldable pub hashFrom : ℕ → Bytes → ℕ
+hashFrom h [] = h
+hashFrom h (b ∷ w) = hashFrom ((h * 33 + b) % 1048576) w
 
 -- the slot of a word in a filter of so many slots
 unfoldable pub slotOf : Bytes → ℕ → ℕ
-slotOf w size = numberFrom 5381 w % size
+slotOf w size = hashFrom 5381 w % size
 
 -- the filter with a word added; one without slots stays
 unfoldable pub added : List ℕ → Bytes → List ℕ

@@ -3,7 +3,7 @@ ghost use mathlib.Core.Path.{_≡_};
 ghost use Prim.Native.Nat.{_≤_};
 ghost use lib.ListN.{length};
 ghost use Rattle.names.specs.Words.{each};
-ghost use Rattle.story.specs.Story.{whats};
+ghost use Rattle.story.specs.Story.{temp, code, whats};
 ghost use Rattle.bodies.specs.Bodies.{bodyIn, Range};
 ghost use Rattle.checks.specs.Context.{ScopeReady, hereAt};
 ghost use Rattle.filters.specs.Words.{addedAll, sortNamed};
@@ -23,7 +23,7 @@ use checks::labels::is_forbidden;
 fn add_temps(filter: &mut [u8], file: &[u8], from: usize, to: usize, scratch: &mut [u32])
     requires { ⌜ Range (now file) from to ⌝ }
     requires { ⌜ 2 ≤ length (now scratch) ⌝ }
-    ensures { λ r. ⌜ now (filter .exit) ≡ addedAll (now (filter .entry)) (each (sortNamed 1) (whats (bodyIn (now (file .entry)) from to))) ⌝ }
+    ensures { λ r. ⌜ now (filter .exit) ≡ addedAll (now (filter .entry)) (each (sortNamed (code temp)) (whats (bodyIn (now (file .entry)) from to))) ⌝ }
 {
     let end = count_items(file, from, to, scratch);
     let mut skip = 0;
@@ -38,7 +38,7 @@ fn add_temps(filter: &mut [u8], file: &[u8], from: usize, to: usize, scratch: &m
     }
 }
 
-// Empties the filter, and adds the parameters and the temps of the body.
+// Empties the filter, and adds the parameters and the temps of the body. What it had before would only cost searches.
 pub fn put_declared(
     file: &[u8],
     params: usize,

@@ -2,7 +2,7 @@
 ghost use mathlib.Core.Path.{_≡_};
 ghost use Prim.Native.Nat.{_<_};
 ghost use lib.ListN.{length, replicate};
-ghost use Rattle.story.specs.Flows.{countedIn, namesN};
+ghost use Rattle.story.specs.Flows.{countedIn};
 ghost use Rattle.story.specs.Story.{code, words};
 ghost use Rattle.bodies.specs.Records.{itemFrom};
 ghost use Rattle.filters.specs.Words.{slotOf, added, addedAll, lacks, sortNamed};
@@ -14,13 +14,13 @@ pub fn slot_of(word: &[u8], size: usize) -> usize
     requires { ⌜ 0 < size ⌝ }
     ensures { λ r. ⌜ r ≡ slotOf (now (word .entry)) size ⌝ }
 {
-    let mut number = 5381;
+    let mut hash = 5381;
     let mut i = 0;
     while i < word.len() {
-        number = (number * 33 + word[i] as usize) % 1048576;
+        hash = (hash * 33 + word[i] as usize) % 1048576;
         i += 1;
     }
-    number % size
+    hash % size
 }
 
 // Adds a word. A filter without slots stays.
@@ -56,24 +56,6 @@ pub fn clear_filter(filter: &mut [u8])
     }
 }
 
-// Adds the first so many names of s.
-fn add_names(filter: &mut [u8], s: &[u8], many: usize)
-    ensures { λ r. ⌜ now (filter .exit) ≡ addedAll (now (filter .entry)) (words (namesN many 0 (now (s .entry)))) ⌝ }
-{
-    let mut t = s;
-    let mut left = many;
-    while 0 < left {
-        if t.len() == 0 {
-            return;
-        }
-        let word = name_at(t, 0);
-        add_word(filter, word);
-        let e = 1 + word.len();
-        t = &t[e..];
-        left = left - 1;
-    }
-}
-
 // Adds the names that the count byte at the front of s counts.
 pub fn add_counted(filter: &mut [u8], s: &[u8])
     ensures { λ r. ⌜ now (filter .exit) ≡ addedAll (now (filter .entry)) (words (countedIn 0 (now (s .entry)))) ⌝ }
@@ -81,8 +63,16 @@ pub fn add_counted(filter: &mut [u8], s: &[u8])
     if s.len() == 0 {
         return;
     }
-    let many = s[0] as usize;
-    add_names(filter, &s[1..], many);
+    let mut left = s[0];
+    let mut at = 1;
+    while 0 < left {
+        if s.len() <= at {
+            return;
+        }
+        add_word(filter, name_at(s, at));
+        at = at + (1 + s[at] as usize);
+        left -= 1;
+    }
 }
 
 // Adds the name of the item at the place, whose sort is given, where it is of the wanted sort.
