@@ -5,7 +5,7 @@ use mathlib.Core.List.{List, [], _∷_}
 use Prim.Native.Nat.{ℕ, zero, suc}
 use lib.Dec.{eqb}
 use lib.ListN.{length, getD, set, length-set}
-use Rattle.names.specs.Words.{Bytes, same, one-of}
+use Rattle.names.specs.Words.{Bytes, same}
 use Rattle.names.proofs.Words.{same-eq}
 use Rattle.filters.specs.Words.{slotOf, added, addedAll, lacks, Covers, Holds}
 

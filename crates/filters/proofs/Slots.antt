@@ -1,13 +1,13 @@
 -- The slot of a word, a filter without words, and the byte at a slot. Assumes nothing.
 use mathlib.Core.Path.{_≡_, refl, sym, _∙_}
-use mathlib.Core.Bool.{false}
+use mathlib.Core.Bool.{true, false}
 use mathlib.Core.List.{List, [], _∷_}
 use Prim.Native.Nat.{ℕ, zero, suc, _+_, _*_, _%_, _≤_, _<_}
 use native.Mathlib.Nat.{mod-lt}
 use native.Mathlib.Numerals.{add-one}
 use native.Mathlib.Omega.{arith}
 use lib.Dec.{eqb}
-use lib.ListN.{length, getD, take, drop, set, replicate, length-set, drop-of-length-le, replicate-append-replicate}
+use lib.ListN.{length, getD, take, drop, set, replicate, length-replicate, getD-replicate, drop-of-length-le, replicate-append-replicate}
 use lib.Seq.{take-all, take-suc-set, drop-cons, set-out}
 use Rattle.names.specs.Words.{Bytes}
 use Rattle.filters.specs.Words.{hashFrom, slotOf, added, lacks}
@@ -53,6 +53,11 @@ module _ {filter : List ℕ} {i : ℕ} (cleared : Cleared filter i) where
   pub cleared-end : (before : List ℕ) → length filter ≤ i → i ≤ length filter → length filter ≡ length before → filter ≡ replicate (length before) 0
   cleared-end before h k e =
       let n : i ≡ length before = omega arith in sym (take-all i filter h) ∙ cleared .front ∙ rw n
+
+-- with slots, it lacks every word
+pub cleared-lacks : (n : ℕ) (w : Bytes) → 0 < n → lacks (replicate n 0) w ≡ true
+unfolding lacks
+cleared-lacks n w h = rw (length-replicate, getD-replicate {A = ℕ} n (slotOf w n) 0 1 (slot-within w h refl))
 
 -- 3. The byte at a slot
 

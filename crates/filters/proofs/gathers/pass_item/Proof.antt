@@ -6,7 +6,7 @@ use Rattle.filters.proofs.gathers.pass_item.Tie as tie
 
 returns : tie.Need-returns
 unfolding passed
-returns c = search needs
+returns c = c .before .before .add-item .ensures
 
 pub pass-item-spec : {M : Type 1} → statement M
 pass-item-spec =
