@@ -1,0 +1,18 @@
+-- `is_forbidden_in`: a name that the filter lacks is not forbidden. Assumes nothing.
+use Rattle.filters.proofs.Bodies.{not-forbidden}
+use borrow.Author.Needs.{needs}
+use Rattle.filters.proofs.declared.is_forbidden_in.Statement.{statement}
+use Rattle.filters.proofs.declared.is_forbidden_in.Tie as tie
+
+returns : tie.Need-returns
+returns c = not-forbidden (c .before .before .before .before .before .before .args .scope) (c .before .before .before .before .before .before .pre .1 .0) _ (c .before .lacks-word .ensures) (c .if1 .taken)
+
+pub is-forbidden-in-spec : {M : Type 1} → statement M
+is-forbidden-in-spec =
+    tie.close
+    (tie.spec
+    (λ c κs. search needs)
+    returns
+    (λ c κs. search needs)
+    (λ c. search needs)
+    (λ c. search needs))

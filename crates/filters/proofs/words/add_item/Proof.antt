@@ -1,0 +1,21 @@
+-- `add_item`: the name is added where the sort is the wanted one. Assumes nothing.
+use Rattle.filters.proofs.Adding.{item-added, item-passed}
+use borrow.Author.Needs.{needs}
+use Rattle.filters.proofs.words.add_item.Statement.{statement}
+use Rattle.filters.proofs.words.add_item.Tie as tie
+
+returns : tie.Need-returns
+returns c = item-added _ _ (c .before .before .before .before .before .before .before .before .pre) (c .before .before .before .before .before .if1 .taken) (c .before .before .before .item-name .ensures) (c .before .before .add-word .ensures)
+
+returns-2 : tie.Need-returns-2
+returns-2 c = item-passed _ _ (c .before .before .before .pre) (c .if1 .left)
+
+pub add-item-spec : {M : Type 1} → statement M
+add-item-spec =
+    tie.close
+    (tie.spec
+    (λ c κs. search needs)
+    (λ c κs. search needs)
+    (λ c. search needs)
+    returns
+    returns-2)

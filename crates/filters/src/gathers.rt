@@ -1,0 +1,42 @@
+// A filter over the gathers that a pass has met in a body.
+ghost use mathlib.Core.Path.{_≡_};
+ghost use Prim.Native.Nat.{_≤_};
+ghost use lib.ListN.{length, take};
+ghost use Rattle.story.specs.Story.{code, whats};
+ghost use Rattle.bodies.specs.Records.{itemFrom};
+ghost use Rattle.bodies.specs.Bodies.{bodyIn, Range};
+ghost use Rattle.bodies.specs.Search.{gatherAmong};
+ghost use Rattle.filters.specs.Names.{Gathered, passed};
+use crate::words::add_item;
+use crate::words::lacks_word;
+use bodies::items::GATHER;
+use bodies::searches::has_gather_before;
+
+// Adds the name of the item at the place, whose sort is given, where it is a gather.
+pub fn pass_item(file: &[u8], place: usize, tag: u32, sort: u8, filter: &mut [u8])
+    requires { ⌜ sort ≡ code (itemFrom (now file) place tag .what .kind) ⌝ }
+    ensures { λ r. ⌜ now (filter .exit) ≡ passed (now (filter .entry)) (itemFrom (now (file .entry)) place tag .what) ⌝ }
+{
+    add_item(filter, GATHER, file, place, tag, sort);
+}
+
+// The name is the label of a gather before item number i of the body. Not searched for where the filter lacks it.
+pub fn has_gather_in(
+    file: &[u8],
+    from: usize,
+    to: usize,
+    i: usize,
+    filter: &[u8],
+    name: &[u8],
+    scratch: &mut [u32],
+) -> bool
+    requires { ⌜ Range (now file) from to ⌝ }
+    requires { ⌜ 2 ≤ length (now scratch) ⌝ }
+    requires { ⌜ Gathered (now file) from to i (now filter) ⌝ }
+    ensures { λ r. ⌜ r ≡ gatherAmong (take i (whats (bodyIn (now (file .entry)) from to))) (now (name .entry)) ⌝ }
+{
+    if lacks_word(filter, name) {
+        return false;
+    }
+    has_gather_before(file, from, to, i, name, scratch)
+}

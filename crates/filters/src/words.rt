@@ -1,0 +1,86 @@
+// A filter over words in a lent buffer: a word that was added has a 1 at its slot, and a 0 there says that it was not.
+ghost use mathlib.Core.Path.{_≡_};
+ghost use Prim.Native.Nat.{_<_};
+ghost use lib.ListN.{length, replicate};
+ghost use Rattle.story.specs.Flows.{countedIn};
+ghost use Rattle.story.specs.Story.{code, words};
+ghost use Rattle.bodies.specs.Records.{itemFrom};
+ghost use Rattle.filters.specs.Words.{slotOf, added, addedAll, lacks, sortNamed};
+use bodies::items::item_name;
+use names::name_at;
+
+// The slot of a word in a filter of so many slots.
+pub fn slot_of(word: &[u8], size: usize) -> usize
+    requires { ⌜ 0 < size ⌝ }
+    ensures { λ r. ⌜ r ≡ slotOf (now (word .entry)) size ⌝ }
+{
+    let mut hash = 5381;
+    let mut i = 0;
+    while i < word.len() {
+        hash = (hash * 33 + word[i] as usize) % 1048576;
+        i += 1;
+    }
+    hash % size
+}
+
+// Adds a word. A filter without slots stays.
+pub fn add_word(filter: &mut [u8], word: &[u8])
+    ensures { λ r. ⌜ now (filter .exit) ≡ added (now (filter .entry)) (now (word .entry)) ⌝ }
+{
+    if filter.len() == 0 {
+        return;
+    }
+    let slot = slot_of(word, filter.len());
+    filter[slot] = 1;
+}
+
+// The word was surely not added. A filter without slots says it of none.
+pub fn lacks_word(filter: &[u8], word: &[u8]) -> bool
+    ensures { λ r. ⌜ r ≡ lacks (now (filter .entry)) (now (word .entry)) ⌝ }
+{
+    if filter.len() == 0 {
+        return false;
+    }
+    let slot = slot_of(word, filter.len());
+    filter[slot] == 0
+}
+
+// Empties the filter.
+pub fn clear_filter(filter: &mut [u8])
+    ensures { λ r. ⌜ now (filter .exit) ≡ replicate (length (now (filter .entry))) 0 ⌝ }
+{
+    let mut i = 0;
+    while i < filter.len() {
+        filter[i] = 0;
+        i += 1;
+    }
+}
+
+// Adds the names that the count byte at the front of s counts.
+pub fn add_counted(filter: &mut [u8], s: &[u8])
+    ensures { λ r. ⌜ now (filter .exit) ≡ addedAll (now (filter .entry)) (words (countedIn 0 (now (s .entry)))) ⌝ }
+{
+    if s.len() == 0 {
+        return;
+    }
+    let mut left = s[0];
+    let mut at = 1;
+    while 0 < left {
+        if s.len() <= at {
+            return;
+        }
+        add_word(filter, name_at(s, at));
+        at = at + (1 + s[at] as usize);
+        left -= 1;
+    }
+}
+
+// Adds the name of the item at the place, whose sort is given, where it is of the wanted sort.
+pub fn add_item(filter: &mut [u8], wanted: u8, file: &[u8], place: usize, tag: u32, sort: u8)
+    requires { ⌜ sort ≡ code (itemFrom (now file) place tag .what .kind) ⌝ }
+    ensures { λ r. ⌜ now (filter .exit) ≡ addedAll (now (filter .entry)) (sortNamed wanted (itemFrom (now (file .entry)) place tag .what)) ⌝ }
+{
+    if sort == wanted {
+        add_word(filter, item_name(file, place, tag));
+    }
+}
