@@ -1,0 +1,23 @@
+-- What a call of the library promises, for any bytes and any buffers.
+use Prim.Native.Nat.{ℕ}
+use mathlib.Core.Path.{_≡_}
+use mathlib.Core.Bool.{Bool}
+use mathlib.Core.List.{List}
+use lib.ListN.{length}
+use lib.Dec.{ltb}
+use Rattle.fields.specs.Bytes.{pick}
+use Rattle.records.specs.Window.{overlay}
+use Rattle.validator.specs.Check.{Report, reportOf}
+use Rattle.qaabireed.specs.Numbers.{resultNumbers}
+
+-- a check's result has seven numbers
+abbrev pub shortResult : List ℕ → Bool
+shortResult result = ltb (length result) 7
+
+-- THE PROMISE of a call of the check: 1 and nothing written where the result buffer is too short; else 0, and each buffer has at its
+-- start what is reported and the rest as it was
+pub record CheckCalled (file index message result : List ℕ) (r : ℕ) (index′ message′ result′ : List ℕ) : Type 0 where
+  pub returned : r ≡ pick (shortResult result) 1 0
+  pub index-is : index′ ≡ pick (shortResult result) index (overlay (reportOf file (length index) (length message) .numbers) index)
+  pub message-is : message′ ≡ pick (shortResult result) message (overlay (reportOf file (length index) (length message) .text) message)
+  pub result-is : result′ ≡ pick (shortResult result) result (overlay (resultNumbers (reportOf file (length index) (length message) .result)) result)
