@@ -1,4 +1,4 @@
--- The answer of a lookup and the index it leaves, by how it went. Assumes nothing.
+-- What a lookup returns and the index it leaves, by how it went. Assumes nothing.
 use mathlib.Core.Path.{_≡_, refl, sym, _∙_, ap}
 use mathlib.Core.List.{List}
 use mathlib.Core.Bool.{Bool, true}
@@ -23,7 +23,7 @@ use Rattle.symbols.proofs.Owners.{index-written}
 use Rattle.symbols.proofs.ReadBack.{index-read}
 use Rattle.lookups.specs.declared.LookupAnswer.{LookupAnswer}
 use Rattle.lookups.specs.declared.LookupAnswer.the-variants as answer
-use Rattle.lookups.specs.Lookup.{targetOf, lookupAt, lookupOf, indexAt, lookupIndex, Looked}
+use Rattle.lookups.specs.Lookup.{targetOf, lookupAt, lookupOf, entriesAt, lookupEntries, indexAt, lookupIndex, Looked}
 
 -- the flows of a story are searched where they stand in the file
 pub function-answer : (c : Sections) (file : List ℕ) (t : Bytes) {r : Bool} → r ≡ any (isFunction t) (flowsIn 0 (take (c .end - c .flows) (drop (c .flows) file)))
@@ -32,30 +32,27 @@ unfolding storyIn
 function-answer c file t e = flows-answer file t (c .flows) true (c .end) e
 
 module _ (file before : List ℕ) (t : Bytes) {o : Opened} (e : o ≡ readOf file) where
-  pub looked-refused : {r : Refusal} → o ≡ opened.Refused r → Looked file before t (answer.Refused r) before
-  unfolding lookupOf lookupAt lookupIndex indexAt
-  looked-refused q = record { answer = rw (← e, q); index = rw (← e, q) }
+  pub looked-refused : {r : Refusal} → o ≡ opened.Refused r → Looked file before t (record { answer = answer.Refused r; entries = 0 }) before
+  unfolding lookupOf lookupAt lookupEntries entriesAt lookupIndex indexAt
+  looked-refused q = record { answer = rw (← e, q); entries = rw (← e, q); index = rw (← e, q) }
 
   module _ (c : Sections) (q : o ≡ opened.At c) where
-    pub looked-short : length before < 3 * c .end → Looked file before t answer.ShortIndex before
-    unfolding lookupOf lookupAt lookupIndex indexAt
-    looked-short h = record {
-      answer = rw (← e, q, lt-ltb (length before) (3 * c .end) h);
-      index = rw (← e, q, lt-ltb (length before) (3 * c .end) h);
-    }
+    pub looked-short : length before < 3 * c .end → Looked file before t (record { answer = answer.ShortIndex; entries = 0 }) before
+    unfolding lookupOf lookupAt lookupEntries entriesAt lookupIndex indexAt
+    looked-short h =
+        let short = lt-ltb (length before) (3 * c .end) h in
+        record { answer = rw (← e, q, short); entries = rw (← e, q, short); index = rw (← e, q, short) }
 
     -- the index was written, and the target is what its spellings say
     pub looked-up : {after : List ℕ} {count : ℕ} {r : LookupAnswer} → 3 * c .end ≤ length before
         → st after count ≡ storeAll (st before 0) (placed (entries (storyIn c file)))
-        → r ≡ targetOf (storyIn c file .flows) (spellingsIn file count after) t → Looked file before t r after
-    unfolding lookupOf lookupAt lookupIndex indexAt
+        → r ≡ targetOf (storyIn c file .flows) (spellingsIn file count after) t → Looked file before t (record { answer = r; entries = count }) after
+    unfolding lookupOf lookupAt lookupEntries entriesAt lookupIndex indexAt
     looked-up {after} {count} {r} h w a =
         let good : Readable c file = readable file c e q in
         let same = w ∙ index-written c file good before h in
         let left : after ≡ indexOf (storyIn c file) before = ap (λ (s : St). s .index) same in
         let many : count ≡ length (entries (storyIn c file)) = ap (λ (s : St). s .count) same in
         let told : r ≡ targetOf (storyIn c file .flows) (spellings (storyIn c file)) t = a ∙ rw (left, many, index-read c file good before) in
-        record {
-          answer = rw (← e, q, le-ltb (length before) (3 * c .end) h) told;
-          index = rw (← e, q, le-ltb (length before) (3 * c .end) h) left;
-        }
+        let long = le-ltb (length before) (3 * c .end) h in
+        record { answer = rw (← e, q, long) told; entries = rw (← e, q, long) many; index = rw (← e, q, long) left }

@@ -1,4 +1,4 @@
--- What a lookup answers, and what it leaves in the index. Assumes nothing.
+-- What a lookup answers, how many entries it tells, and what it leaves in the index. Assumes nothing.
 use mathlib.Core.Path.{_≡_}
 use mathlib.Core.List.{List, [], _∷_}
 use Prim.Native.Nat.{ℕ, _*_}
@@ -15,11 +15,12 @@ use Rattle.story.specs.File.{readOf, storyIn}
 use Rattle.searches.specs.Called.{isFunction}
 use Rattle.symbols.specs.declared.Found.{Found}
 use Rattle.symbols.specs.declared.Found.the-variants as found
-use Rattle.symbols.specs.Index.{spellings}
+use Rattle.symbols.specs.Index.{entries, spellings}
 use Rattle.symbols.specs.Placed.{indexOf}
 use Rattle.symbols.specs.Rows.{firstOf}
 use Rattle.lookups.specs.declared.LookupAnswer.{LookupAnswer}
 use Rattle.lookups.specs.declared.LookupAnswer.the-variants as answer
+use Rattle.lookups.specs.declared.LookupResult.{LookupResult}
 
 -- an entry by its whole spelling, else by its ending
 unfoldable pub endingOf : Found → LookupAnswer
@@ -48,6 +49,15 @@ lookupAt (opened.At c) file room t =
 unfoldable pub lookupOf : List ℕ → ℕ → Bytes → LookupAnswer
 lookupOf file room t = lookupAt (readOf file) file room t
 
+-- a refusal tells no entries
+unfoldable pub entriesAt : Opened → List ℕ → ℕ → ℕ
+entriesAt (opened.Refused r) file room = 0
+entriesAt (opened.At c) file room = pick (ltb room (3 * c .end)) 0 (length (entries (storyIn c file)))
+
+-- THE ENTRY COUNT, for a file and so many numbers of room in the index
+unfoldable pub lookupEntries : List ℕ → ℕ → ℕ
+lookupEntries file room = entriesAt (readOf file) file room
+
 -- a refusal leaves the index as it was
 unfoldable pub indexAt : Opened → List ℕ → List ℕ → List ℕ
 indexAt (opened.Refused r) file before = before
@@ -57,6 +67,8 @@ indexAt (opened.At c) file before = pick (ltb (length before) (3 * c .end)) befo
 unfoldable pub lookupIndex : List ℕ → List ℕ → List ℕ
 lookupIndex file before = indexAt (readOf file) file before
 
-pub record Looked (file before target : List ℕ) (r : LookupAnswer) (after : List ℕ) : Type 0 where
-  pub answer : r ≡ lookupOf file (length before) target
+-- what a lookup returns, and the index after it
+pub record Looked (file before target : List ℕ) (r : LookupResult) (after : List ℕ) : Type 0 where
+  pub answer : r .answer ≡ lookupOf file (length before) target
+  pub entries : r .entries ≡ lookupEntries file (length before)
   pub index : after ≡ lookupIndex file before

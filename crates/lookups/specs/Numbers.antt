@@ -16,6 +16,17 @@ refusalOf (Exact k) = none
 refusalOf (Ending k) = none
 refusalOf Missing = none
 
+-- the number of the answer, where it is no refusal
+unfoldable pub answerNumber : LookupAnswer → Option ℕ
+answerNumber (Refused r) = none
+answerNumber ShortIndex = none
+answerNumber Pass = some 0
+answerNumber Function = some 1
+answerNumber Reserved = some 2
+answerNumber (Exact k) = some 3
+answerNumber (Ending k) = some 4
+answerNumber Missing = some 5
+
 -- the number of the entry, from 0, where it names one
 unfoldable pub entryNumber : LookupAnswer → Option ℕ
 entryNumber (Refused r) = none

@@ -31,6 +31,12 @@ pub enum LookupAnswer {
     Missing,
 }
 
+// What a lookup returns: its answer, and how many entries the index has, 0 on a refusal.
+pub struct LookupResult {
+    pub answer: LookupAnswer,
+    pub entries: usize,
+}
+
 // The first of so many entries that is spelled as the target, else the first that ends in "." and the target.
 fn lookup_entry(file: &[u8], index: &[u32], count: usize, target: &[u8]) -> LookupAnswer
     ensures { λ r. ⌜ r ≡ entryOf (firstOf (same (now (target .entry))) 0 (spellingsIn (now (file .entry)) count (now (index .entry)))) (firstOf (ends (46 ∷ now (target .entry))) 0 (spellingsIn (now (file .entry)) count (now (index .entry)))) ⌝ }
@@ -72,19 +78,29 @@ fn lookup_target(
 }
 
 // Looks the target up: reads the file, writes the index as a check does, and finds what the target is.
-pub fn lookup(file: &[u8], index: &mut [u32], target: &[u8]) -> LookupAnswer
+pub fn lookup(file: &[u8], index: &mut [u32], target: &[u8]) -> LookupResult
     ensures { λ r. ⌜ Looked (now (file .entry)) (now (index .entry)) (now (target .entry)) r (now (index .exit)) ⌝ }
 {
     let opened = read(file);
     match opened {
-        Opened::Refused(r) => LookupAnswer::Refused(r),
+        Opened::Refused(r) => LookupResult {
+            answer: LookupAnswer::Refused(r),
+            entries: 0,
+        },
         Opened::At(c) => {
             if index.len() < 3 * c.end {
-                return LookupAnswer::ShortIndex;
+                return LookupResult {
+                    answer: LookupAnswer::ShortIndex,
+                    entries: 0,
+                };
             }
             let mut batch = [0u32; 1024];
             let count = write_index(file, c, index, &mut batch);
-            lookup_target(file, c, index, count, target)
+            let answer = lookup_target(file, c, index, count, target);
+            LookupResult {
+                answer: answer,
+                entries: count,
+            }
         }
     }
 }
