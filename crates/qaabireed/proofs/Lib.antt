@@ -2,4 +2,5 @@
 pub mod Stories
 pub mod Breaches
 pub mod Narrow
+pub mod Lookups
 pub mod Written

@@ -114,7 +114,7 @@ module _ (file : List ℕ) (bytes : (i : ℕ) → getD file i 0 < 256) where
 
 -- 4. An answer
 
-refusal-narrow : (r : Refusal) → refusalNumber r < 2 ^ 32
+pub refusal-narrow : (r : Refusal) → refusalNumber r < 2 ^ 32
 unfolding refusalNumber
 refusal-narrow Length = lit< tt
 refusal-narrow Mark = lit< tt

@@ -18,8 +18,13 @@ use Rattle.validator.specs.declared.Answer.the-variants.{Accepted, Breached, Un
 use Rattle.validator.specs.Results.{resultOf}
 use Rattle.validator.specs.Check.{reportOf}
 use Rattle.validator.specs.Checked.{Checked}
-use Rattle.qaabireed.specs.Numbers.{resultNumbers, Narrow}
-use Rattle.qaabireed.specs.Calls.{CheckCalled}
+use Rattle.lookups.specs.declared.LookupAnswer.{LookupAnswer}
+use Rattle.lookups.specs.declared.LookupAnswer.the-variants as answer
+use Rattle.lookups.specs.declared.LookupResult.{LookupResult}
+use Rattle.lookups.specs.Lookup.{Looked}
+use Rattle.lookups.specs.Numbers.{refusalOf, answerNumber, entryNumber}
+use Rattle.qaabireed.specs.Numbers.{resultNumbers, lookupNumbers, Narrow}
+use Rattle.qaabireed.specs.Calls.{CheckCalled, LookupCalled}
 
 -- numbers stored one after the other from the buffer's start
 pub stored : (xs buffer : List ℕ) → length xs ≤ length buffer → sets buffer 0 xs ≡ overlay xs buffer
@@ -50,6 +55,24 @@ module _ {a : Answer} (w : Narrow (resultNumbers (resultOf a))) where
       let n = rw e at w in
       record { place = n .1 .1 .0; first = n .1 .1 .1 .0; second = n .1 .1 .1 .1 .0; entries = n .1 .1 .1 .1 .1 .0; message = n .1 .1 .1 .1 .1 .1 .0 }
 
+-- likewise of a lookup's answer
+module _ (a : LookupAnswer) (n : ℕ) (w : Narrow (lookupNumbers a n)) where
+  pub lookup-refusal-fits : {r : Refusal} {m : ℕ} → a ≡ answer.Refused r → m ≡ refusalNumber r → m < 2 ^ 32
+  unfolding lookupNumbers refusalOf answerNumber entryNumber
+  lookup-refusal-fits e f = rw f ((rw e at w) .1 .0)
+
+  pub exact-fits : {k : ℕ} → a ≡ answer.Exact k → k < 2 ^ 32
+  unfolding lookupNumbers refusalOf answerNumber entryNumber
+  exact-fits e = (rw e at w) .1 .1 .0
+
+  pub ending-fits : {k : ℕ} → a ≡ answer.Ending k → k < 2 ^ 32
+  unfolding lookupNumbers refusalOf answerNumber entryNumber
+  ending-fits e = (rw e at w) .1 .1 .0
+
+  pub entries-fit : n < 2 ^ 32
+  unfolding lookupNumbers
+  entries-fit = w .1 .1 .1 .0
+
 -- a call with too short a buffer
 pub call-refused : {file index message result : List ℕ} → length result < 7 → CheckCalled file index message result 1 index message result
 call-refused {result = result} h = record {
@@ -68,4 +91,21 @@ call-answered {result = result} h p e = record {
   index-is = rw (le-ltb (length result) 7 h) (p .reported .index-is);
   message-is = rw (le-ltb (length result) 7 h) (p .reported .message-is);
   result-is = rw (le-ltb (length result) 7 h, ← p .reported .result) e;
+}
+
+-- likewise a lookup
+pub lookup-refused : {file index target result : List ℕ} → length result < 4 → LookupCalled file index target result 1 index result
+lookup-refused {result = result} h = record {
+  returned = rw (lt-ltb (length result) 4 h);
+  index-is = rw (lt-ltb (length result) 4 h);
+  result-is = rw (lt-ltb (length result) 4 h);
+}
+
+pub lookup-answered : {file index target result : List ℕ} {r : LookupResult} {index′ result′ : List ℕ} → 4 ≤ length result
+    → Looked file index target r index′ → result′ ≡ overlay (lookupNumbers (r .answer) (r .entries)) result
+    → LookupCalled file index target result 0 index′ result′
+lookup-answered {result = result} h l e = record {
+  returned = rw (le-ltb (length result) 4 h);
+  index-is = rw (le-ltb (length result) 4 h) (l .index);
+  result-is = rw (le-ltb (length result) 4 h, ← l .answer, ← l .entries) e;
 }

@@ -8,7 +8,8 @@ use lib.Dec.{ltb}
 use Rattle.fields.specs.Bytes.{pick}
 use Rattle.records.specs.Window.{overlay}
 use Rattle.validator.specs.Check.{Report, reportOf}
-use Rattle.qaabireed.specs.Numbers.{resultNumbers}
+use Rattle.lookups.specs.Lookup.{lookupOf, lookupEntries, lookupIndex}
+use Rattle.qaabireed.specs.Numbers.{resultNumbers, lookupNumbers}
 
 -- a check's result has seven numbers
 abbrev pub shortResult : List ℕ → Bool
@@ -21,3 +22,13 @@ pub record CheckCalled (file index message result : List ℕ) (r : ℕ) (index�
   pub index-is : index′ ≡ pick (shortResult result) index (overlay (reportOf file (length index) (length message) .numbers) index)
   pub message-is : message′ ≡ pick (shortResult result) message (overlay (reportOf file (length index) (length message) .text) message)
   pub result-is : result′ ≡ pick (shortResult result) result (overlay (resultNumbers (reportOf file (length index) (length message) .result)) result)
+
+-- a lookup's result has four numbers
+abbrev pub shortLookup : List ℕ → Bool
+shortLookup result = ltb (length result) 4
+
+-- THE PROMISE of a call of the lookup, likewise
+pub record LookupCalled (file index target result : List ℕ) (r : ℕ) (index′ result′ : List ℕ) : Type 0 where
+  pub returned : r ≡ pick (shortLookup result) 1 0
+  pub index-is : index′ ≡ pick (shortLookup result) index (lookupIndex file index)
+  pub result-is : result′ ≡ pick (shortLookup result) result (overlay (lookupNumbers (lookupOf file (length index) target) (lookupEntries file (length index))) result)

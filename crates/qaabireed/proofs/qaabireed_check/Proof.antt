@@ -8,11 +8,11 @@ use Rattle.qaabireed.proofs.qaabireed_check.Tie as tie
 returns : tie.Need-returns
 returns c = call-refused (c .if1 .taken)
 
-put-answer-requires : tie.Need-put-answer-requires
-put-answer-requires c κs = (search needs, checked-narrow (λ i. c .before .before .before .before .before .before .before .before .before .before .before .before .shared-slice-known .given i .fits) (c .before .before .before .before .before .check .ensures))
+put-check-requires : tie.Need-put-check-requires
+put-check-requires c κs = (search needs, checked-narrow (λ i. c .before .before .before .before .before .before .before .before .before .before .before .before .shared-slice-known .given i .fits) (c .before .before .before .before .before .check .ensures))
 
 returns-2 : tie.Need-returns-2
-returns-2 c = call-answered (c .before .before .before .before .before .before .before .before .before .before .before .if1 .left) (c .before .before .before .before .before .before .before .before .check .ensures) (c .before .before .put-answer .ensures)
+returns-2 c = call-answered (c .before .before .before .before .before .before .before .before .before .before .before .if1 .left) (c .before .before .before .before .before .before .before .before .check .ensures) (c .before .before .put-check .ensures)
 
 pub qaabireed-check-spec : {M : Type 1} → statement M
 qaabireed-check-spec =
@@ -20,7 +20,7 @@ qaabireed-check-spec =
     (tie.spec
     returns
     (λ c κs. search needs)
-    put-answer-requires
+    put-check-requires
     (λ c. search needs)
     (λ c. search needs)
     (λ c. search needs)

@@ -1,11 +1,11 @@
--- `put_answer`: the numbers of each case of the answer. Assumes nothing.
+-- `put_check`: the numbers of each case of the answer. Assumes nothing.
 use native.Mathlib.Omega.{arith}
 use borrow.Author.Needs.{needs}
 use Rattle.validator.specs.Results.{resultOf}
 use Rattle.qaabireed.specs.Numbers.{resultNumbers}
 use Rattle.qaabireed.proofs.Written.{accepted-fits, refusal-fits, breach-fits}
-use Rattle.qaabireed.proofs.put_answer.Statement.{statement}
-use Rattle.qaabireed.proofs.put_answer.Tie as tie
+use Rattle.qaabireed.proofs.put_check.Statement.{statement}
+use Rattle.qaabireed.proofs.put_check.Tie as tie
 
 cast-put-seven : tie.Need-cast-put-seven
 cast-put-seven c = omega (arith, accepted-fits (c .before .before .before .before .before .pre .1) (c .before .before .answer .given .1))
@@ -48,8 +48,8 @@ returns-5 : tie.Need-returns-5
 unfolding resultNumbers resultOf
 returns-5 c = rw (c .before .before .before .before .enum-told2 .given .1) (c .before .before .put-refusal3 .ensures)
 
-pub put-answer-spec : {M : Type 1} → statement M
-put-answer-spec =
+pub put-check-spec : {M : Type 1} → statement M
+put-check-spec =
     tie.close
     (tie.spec
     (λ c. search needs)
