@@ -1,4 +1,5 @@
 -- `qaabireed_check` meets its contract: where the buffer is long enough, the check's answer is written as numbers. Assumes nothing.
+use native.Mathlib.Omega.{arith}
 use borrow.Author.Needs.{needs}
 use Rattle.qaabireed.proofs.Narrow.{checked-narrow}
 use Rattle.qaabireed.proofs.Written.{call-refused, call-answered}
@@ -6,7 +7,7 @@ use Rattle.qaabireed.proofs.qaabireed_check.Statement.{statement}
 use Rattle.qaabireed.proofs.qaabireed_check.Tie as tie
 
 returns : tie.Need-returns
-returns c = call-refused (c .if1 .taken)
+returns c = call-refused (omega (arith, c .if1 .taken))
 
 put-check-requires : tie.Need-put-check-requires
 put-check-requires c κs = (search needs, checked-narrow (λ i. c .before .before .before .before .before .before .before .before .before .before .before .before .shared-slice-known .given i .fits) (c .before .before .before .before .before .check .ensures))
