@@ -1,5 +1,5 @@
 -- What a lookup returns and the index it leaves, by how it went. Assumes nothing.
-use mathlib.Core.Path.{_≡_, refl, sym, _∙_, ap}
+use mathlib.Core.Path.{_≡_, _∙_, ap}
 use mathlib.Core.List.{List}
 use mathlib.Core.Bool.{Bool, true}
 use Prim.Native.Nat.{ℕ, _-_, _*_, _≤_, _<_}
@@ -10,7 +10,7 @@ use Rattle.names.specs.Words.{Bytes, any}
 use Rattle.story.specs.declared.Sections.{Sections}
 use Rattle.story.specs.declared.Opened.{Opened}
 use Rattle.story.specs.declared.Opened.the-variants as opened
-use Rattle.story.specs.Flows.{flowsIn, part}
+use Rattle.story.specs.Flows.{flowsIn}
 use Rattle.story.specs.File.{readOf, storyIn}
 use Rattle.story.proofs.Readable.{Readable, readable}
 use Rattle.searches.specs.Called.{isFunction}
@@ -24,6 +24,7 @@ use Rattle.symbols.proofs.ReadBack.{index-read}
 use Rattle.lookups.specs.declared.LookupAnswer.{LookupAnswer}
 use Rattle.lookups.specs.declared.LookupAnswer.the-variants as answer
 use Rattle.lookups.specs.Lookup.{targetOf, lookupAt, lookupOf, entriesAt, lookupEntries, indexAt, lookupIndex, Looked}
+use Rattle.lookups.proofs.Promise.{promised}
 
 -- the flows of a story are searched where they stand in the file
 pub function-answer : (c : Sections) (file : List ℕ) (t : Bytes) {r : Bool} → r ≡ any (isFunction t) (flowsIn 0 (take (c .end - c .flows) (drop (c .flows) file)))
@@ -34,14 +35,14 @@ function-answer c file t e = flows-answer file t (c .flows) true (c .end) e
 module _ (file before : List ℕ) (t : Bytes) {o : Opened} (e : o ≡ readOf file) where
   pub looked-refused : {r : Refusal} → o ≡ opened.Refused r → Looked file before t (record { answer = answer.Refused r; entries = 0 }) before
   unfolding lookupOf lookupAt lookupEntries entriesAt lookupIndex indexAt
-  looked-refused q = record { answer = rw (← e, q); entries = rw (← e, q); index = rw (← e, q) }
+  looked-refused q = promised file before t (rw (← e, q)) (rw (← e, q)) (rw (← e, q))
 
   module _ (c : Sections) (q : o ≡ opened.At c) where
     pub looked-short : length before < 3 * c .end → Looked file before t (record { answer = answer.ShortIndex; entries = 0 }) before
     unfolding lookupOf lookupAt lookupEntries entriesAt lookupIndex indexAt
     looked-short h =
         let short = lt-ltb (length before) (3 * c .end) h in
-        record { answer = rw (← e, q, short); entries = rw (← e, q, short); index = rw (← e, q, short) }
+        promised file before t (rw (← e, q, short)) (rw (← e, q, short)) (rw (← e, q, short))
 
     -- the index was written, and the target is what its spellings say
     pub looked-up : {after : List ℕ} {count : ℕ} {r : LookupAnswer} → 3 * c .end ≤ length before
@@ -55,4 +56,4 @@ module _ (file before : List ℕ) (t : Bytes) {o : Opened} (e : o ≡ readOf fil
         let many : count ≡ length (entries (storyIn c file)) = ap (λ (s : St). s .count) same in
         let told : r ≡ targetOf (storyIn c file .flows) (spellings (storyIn c file)) t = a ∙ rw (left, many, index-read c file good before) in
         let long = le-ltb (length before) (3 * c .end) h in
-        record { answer = rw (← e, q, long) told; entries = rw (← e, q, long) many; index = rw (← e, q, long) left }
+        promised file before t (rw (← e, q, long) told) (rw (← e, q, long) many) (rw (← e, q, long) left)

@@ -19,12 +19,7 @@ use Rattle.symbols.proofs.Searched.{FirstAt, first-at, first-none, none-first}
 use Rattle.lookups.specs.declared.LookupAnswer.{LookupAnswer}
 use Rattle.lookups.specs.declared.LookupAnswer.the-variants as answer
 use Rattle.lookups.specs.Lookup.{endingOf, entryOf, targetOf}
-
--- the target is none of the three kinds that are preferred to an entry
-pub record Sought (flows : List Flow) (t : Bytes) : Type 0 where
-  pub looked : passes t ≡ false
-  pub no-function : any (isFunction t) flows ≡ false
-  pub free : one-of t (END ∷ DONE ∷ back ∷ []) ≡ false
+use Rattle.lookups.specs.Meaning.{Sought}
 
 -- some spelling answers where one is the target or one ends in it
 any-either : (t : Bytes) (l : List Bytes) → any (answers t) l ≡ any (same t) l || any (ends (46 ∷ t)) l

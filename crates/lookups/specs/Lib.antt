@@ -1,2 +1,3 @@
 pub mod Lookup
+pub mod Meaning
 pub mod Numbers

@@ -1,14 +1,16 @@
 -- What a lookup answers, how many entries it tells, and what it leaves in the index. Assumes nothing.
 use mathlib.Core.Path.{_≡_}
 use mathlib.Core.List.{List, [], _∷_}
-use Prim.Native.Nat.{ℕ, _*_}
+use mathlib.Core.Option.{some}
+use Prim.Native.Nat.{ℕ, _*_, _≤_}
 use lib.ListN.{length}
 use lib.Dec.{ltb}
 use Rattle.fields.specs.Bytes.{pick}
 use Rattle.names.specs.Words.{Bytes, same, any, one-of, ends}
 use Rattle.names.specs.Reserved.{END, DONE, back}
 use Rattle.names.specs.Targets.{passes}
-use Rattle.story.specs.Story.{Flow, Story}
+use Rattle.story.specs.Story.{Flow}
+use Rattle.story.specs.declared.Sections.{Sections}
 use Rattle.story.specs.declared.Opened.{Opened}
 use Rattle.story.specs.declared.Opened.the-variants as opened
 use Rattle.story.specs.File.{readOf, storyIn}
@@ -21,6 +23,8 @@ use Rattle.symbols.specs.Rows.{firstOf}
 use Rattle.lookups.specs.declared.LookupAnswer.{LookupAnswer}
 use Rattle.lookups.specs.declared.LookupAnswer.the-variants as answer
 use Rattle.lookups.specs.declared.LookupResult.{LookupResult}
+use Rattle.lookups.specs.Numbers.{refusalOf}
+use Rattle.lookups.specs.Meaning.{Meant}
 
 -- an entry by its whole spelling, else by its ending
 unfoldable pub endingOf : Found → LookupAnswer
@@ -67,8 +71,13 @@ indexAt (opened.At c) file before = pick (ltb (length before) (3 * c .end)) befo
 unfoldable pub lookupIndex : List ℕ → List ℕ → List ℕ
 lookupIndex file before = indexAt (readOf file) file before
 
--- what a lookup returns, and the index after it
+-- THE PROMISE of a lookup of any target in any bytes, with any index
 pub record Looked (file before target : List ℕ) (r : LookupResult) (after : List ℕ) : Type 0 where
+  -- what it returns, and the index after it
   pub answer : r .answer ≡ lookupOf file (length before) target
   pub entries : r .entries ≡ lookupEntries file (length before)
   pub index : after ≡ lookupIndex file before
+  -- a refusal leaves the index as it was and tells no entries
+  pub refusal-writes-nothing : (n : ℕ) → refusalOf (r .answer) ≡ some n → (after ≡ before) × (r .entries ≡ 0)
+  -- what is answered of a readable file, where the index has room: an entry matches, and Missing says that nothing does
+  pub means : (c : Sections) → readOf file ≡ opened.At c → 3 * c .end ≤ length before → Meant (storyIn c file) target (r .answer)
