@@ -1,20 +1,20 @@
 -- The place and the names of a breach that stands have 32 bits: `breach-narrow`. Assumes nothing.
 use mathlib.Core.Path.{_≡_, refl}
-use mathlib.Core.List.{List, [], _∷_, _++_, List·Memᴰ·head, List·Memᴰ·not-nil, List·Memᴰ·cases-cons, List·Memᴰ·eq-of-singleton, Memᴰ·append-right, Memᴰ·of-map}
-use mathlib.Core.Logic.{_⊎_, inl, inr, ⊎-elim}
-use Prim.Native.Nat.{ℕ, _+_, _≤_, _<_, _^_}
+use mathlib.Core.List.{List·Memᴰ·head, List·Memᴰ·not-nil, List·Memᴰ·cases-cons, List·Memᴰ·eq-of-singleton, Memᴰ·append-right, Memᴰ·of-map}
+use mathlib.Core.Logic.{inl, inr, ⊎-elim}
+use Prim.Native.Nat.{ℕ, _≤_, _<_, _^_}
 use native.Mathlib.Omega.{arith}
 use lib.Dec.{lit<}
 use Rattle.names.specs.Words.{_∈_}
-use Rattle.story.specs.Story.{Name, parameter, Item, Stitch, Flow, Story}
+use Rattle.story.specs.Story.{Name, parameter, Item, Story}
 use Rattle.rules.specs.declared.Rule.{Rule}
 use Rattle.rules.specs.declared.Rule.the-variants.{FunctionDivertedTo, TargetNotFound, FlowCalled, NameIsFunction, NameIsGlobal, TempIsParameter, TempIsLabel, ParameterUnmarked, ParameterAlreadyMarked, GatherRepeated, ChoiceUndiverted, FunctionWithStitches, FunctionWithChoice, FunctionWithDivert, VariableForbidden}
-use Rattle.rules.specs.Rules.{number, Scope, root, knot, stitch}
+use Rattle.rules.specs.Rules.{number}
 use Rattle.rules.specs.Steps.{Run, nameItem, runs, absent, flowNamed, Breach}
 use Rattle.rules.specs.Meaning.{Ran, ran-root, ran-purity, ran-no-purity, ran-params, ran-flow, ran-name, ran-stitch, NamesAre, Stands}
 use Rattle.rules.proofs.Numbered.{number-in}
 use Rattle.rules.proofs.Ran.{only-steps}
-use Rattle.qaabireed.proofs.Stories.{ItemWithin, TitleWithin, FlowWithin, StoryWithin}
+use Rattle.qaabireed.proofs.Stories.{ItemWithin, StoryWithin}
 
 -- 1. What a step visits
 

@@ -4,3 +4,4 @@ pub mod Breaches
 pub mod Narrow
 pub mod Lookups
 pub mod Written
+pub mod Examples

@@ -1,5 +1,5 @@
 -- Each number of what a lookup answers has 32 bits: `looked-narrow`. Assumes nothing.
-use mathlib.Core.Path.{_≡_, refl, ap}
+use mathlib.Core.Path.{_≡_, refl}
 use mathlib.Core.Bool.{Bool, true, false}
 use mathlib.Core.List.{List}
 use Prim.Native.Nat.{ℕ, _*_, _≤_, _<_, _^_}
@@ -7,7 +7,6 @@ use native.Mathlib.Omega.{arith}
 use lib.Dec.{ltb, lit<}
 use lib.ListN.{length, length-map}
 use Rattle.fields.specs.Bytes.{pick}
-use Rattle.fields.specs.Refusals.{refusalNumber}
 use Rattle.names.specs.Words.{Bytes}
 use Rattle.story.specs.declared.Sections.{Sections}
 use Rattle.story.specs.declared.Opened.{Opened}

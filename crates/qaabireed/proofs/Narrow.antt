@@ -1,5 +1,5 @@
 -- Each number of what a check answers has 32 bits: `checked-narrow`. Assumes nothing.
-use mathlib.Core.Path.{_≡_, refl, sym, _∙_, ap}
+use mathlib.Core.Path.{_≡_, refl, sym, _∙_}
 use mathlib.Core.Bool.{Bool, true, false}
 use mathlib.Core.List.{List}
 use mathlib.Core.Option.{Option, none, some}
@@ -29,12 +29,12 @@ use Rattle.rules.proofs.FileDemand.{file-demand3}
 use Rattle.messages.proofs.Length.{message-fits}
 use Rattle.validator.specs.declared.Answer.{Answer}
 use Rattle.validator.specs.declared.Answer.the-variants.{Accepted, Breached, Unreadable, ShortIndex, ShortMessage}
-use Rattle.validator.specs.Results.{Judged, accepted, breach, Result, refused, checked, resultOf}
+use Rattle.validator.specs.Results.{Judged, accepted, breach, refused, checked, resultOf}
 use Rattle.validator.specs.Check.{judgedOf, textOf, Report, refusing, storyReport, reportAt, reportOf}
 use Rattle.validator.specs.Checked.{Checked}
 use Rattle.qaabireed.specs.Numbers.{judgedNumbers, resultNumbers, Narrow}
 use Rattle.qaabireed.proofs.Stories.{story-within}
-use Rattle.qaabireed.proofs.Breaches.{NamesNarrow, BreachNarrow, breach-narrow}
+use Rattle.qaabireed.proofs.Breaches.{NamesNarrow, breach-narrow}
 
 -- 1. The numbers of a result
 

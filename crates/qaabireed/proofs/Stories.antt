@@ -1,9 +1,9 @@
 -- The places in a readable file's story lie within the file: `story-within`. Assumes nothing.
 use mathlib.Core.Path.{_≡_, refl, sym, _∙_, ap}
-use mathlib.Core.List.{List, List·Memᴰ, List·Memᴰ·head, List·Memᴰ·tail, Memᴰ·append-left}
+use mathlib.Core.List.{List, List·Memᴰ·head, List·Memᴰ·tail, Memᴰ·append-left}
 use Prim.Native.Nat.{ℕ, _+_, _-_, _≤_, _<_}
 use native.Mathlib.Omega.{arith}
-use lib.ListN.{length, take, drop, length-take, length-drop}
+use lib.ListN.{length, drop, length-take, length-drop}
 use lib.Seq.{drop-drop}
 use Rattle.names.specs.Words.{_∈_}
 use Rattle.records.specs.Trace.{well, ends}
@@ -12,7 +12,7 @@ use Rattle.records.proofs.Places.{lies-within}
 use Rattle.story.specs.declared.Sections.{Sections}
 use Rattle.story.specs.declared.Heading.{Heading}
 use Rattle.story.specs.Story.{Name, Item, Stitch, Flow, Story}
-use Rattle.story.specs.Items.{nameIn, itemOf, itemsIn}
+use Rattle.story.specs.Items.{nameIn, itemsIn}
 use Rattle.story.specs.Flows.{piece, stitch, flow, countedIn, part, stitchIn, flowIn, flowsIn}
 use Rattle.story.specs.File.{storyIn}
 use Rattle.story.proofs.Unfolding.{titled-in, flow-in}

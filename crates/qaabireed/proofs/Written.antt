@@ -1,22 +1,19 @@
 -- What is written to the result buffer, and what a call promises. Assumes nothing.
-use mathlib.Core.Path.{_≡_, refl, sym, _∙_, ap}
-use mathlib.Core.List.{List, [], _∷_}
+use mathlib.Core.Path.{_≡_}
+use mathlib.Core.List.{List}
 use Prim.Native.Nat.{ℕ, _≤_, _<_, _^_}
 use native.Mathlib.Nat.{zero-add}
 use native.Mathlib.Omega.{arith}
-use lib.ListN.{length, set}
+use lib.ListN.{length}
 use lib.Seq.{sets, sets-eq}
 use borrow.Author.Tests.{lt-ltb, le-ltb}
-use Rattle.fields.specs.Bytes.{pick}
 use Rattle.fields.specs.declared.Refusal.{Refusal}
 use Rattle.fields.specs.Refusals.{refusalNumber}
 use Rattle.records.specs.Window.{overlay}
-use Rattle.rules.specs.Rules.{number}
 use Rattle.validator.specs.declared.Breach.{Breach}
 use Rattle.validator.specs.declared.Answer.{Answer}
-use Rattle.validator.specs.declared.Answer.the-variants.{Accepted, Breached, Unreadable, ShortIndex, ShortMessage}
+use Rattle.validator.specs.declared.Answer.the-variants.{Accepted, Breached, Unreadable}
 use Rattle.validator.specs.Results.{resultOf}
-use Rattle.validator.specs.Check.{reportOf}
 use Rattle.validator.specs.Checked.{Checked}
 use Rattle.lookups.specs.declared.LookupAnswer.{LookupAnswer}
 use Rattle.lookups.specs.declared.LookupAnswer.the-variants as answer
@@ -80,17 +77,19 @@ call-refused {result = result} h = record {
   index-is = rw (lt-ltb (length result) 7 h);
   message-is = rw (lt-ltb (length result) 7 h);
   result-is = rw (lt-ltb (length result) 7 h);
+  told = λ k. absurd (omega arith);
 }
 
 -- a call that is answered
 pub call-answered : {file index message result : List ℕ} {a : Answer} {index′ message′ result′ : List ℕ} → 7 ≤ length result
     → Checked file index message a index′ message′ → result′ ≡ overlay (resultNumbers (resultOf a)) result
     → CheckCalled file index message result 0 index′ message′ result′
-call-answered {result = result} h p e = record {
+call-answered {result = result} {a = a} h p e = record {
   returned = rw (le-ltb (length result) 7 h);
   index-is = rw (le-ltb (length result) 7 h) (p .reported .index-is);
   message-is = rw (le-ltb (length result) 7 h) (p .reported .message-is);
   result-is = rw (le-ltb (length result) 7 h, ← p .reported .result) e;
+  told = λ k. record { answer = a; promise = p; numbers = e };
 }
 
 -- likewise a lookup
@@ -99,13 +98,15 @@ lookup-refused {result = result} h = record {
   returned = rw (lt-ltb (length result) 4 h);
   index-is = rw (lt-ltb (length result) 4 h);
   result-is = rw (lt-ltb (length result) 4 h);
+  told = λ k. absurd (omega arith);
 }
 
 pub lookup-answered : {file index target result : List ℕ} {r : LookupResult} {index′ result′ : List ℕ} → 4 ≤ length result
     → Looked file index target r index′ → result′ ≡ overlay (lookupNumbers (r .answer) (r .entries)) result
     → LookupCalled file index target result 0 index′ result′
-lookup-answered {result = result} h l e = record {
+lookup-answered {result = result} {r = r} h l e = record {
   returned = rw (le-ltb (length result) 4 h);
   index-is = rw (le-ltb (length result) 4 h) (l .index);
   result-is = rw (le-ltb (length result) 4 h, ← l .answer, ← l .entries) e;
+  told = λ k. record { returns = r; promise = l; numbers = e };
 }
