@@ -1,0 +1,31 @@
+-- `qaabireed_lookup` meets its contract: where the buffer is long enough, the lookup's answer is written as numbers. Assumes nothing.
+use native.Mathlib.Omega.{arith}
+use borrow.Author.Needs.{needs}
+use Rattle.qaabireed.proofs.Lookups.{looked-narrow}
+use Rattle.qaabireed.proofs.Written.{entries-fit, lookup-refused, lookup-answered}
+use Rattle.qaabireed.proofs.qaabireed_lookup.Statement.{statement}
+use Rattle.qaabireed.proofs.qaabireed_lookup.Tie as tie
+
+returns : tie.Need-returns
+returns c = lookup-refused (c .if1 .taken)
+
+cast-put-lookup : tie.Need-cast-put-lookup
+cast-put-lookup c = omega (arith, entries-fit _ _ (looked-narrow (c .before .before .before .lookup .ensures)))
+
+put-lookup-requires : tie.Need-put-lookup-requires
+put-lookup-requires c κs = (search needs, looked-narrow (c .before .before .before .lookup .ensures))
+
+returns-2 : tie.Need-returns-2
+returns-2 c = lookup-answered (c .before .before .before .before .before .before .before .before .if1 .left) (c .before .before .before .before .before .before .lookup .ensures) (c .before .before .put-lookup .ensures)
+
+pub qaabireed-lookup-spec : {M : Type 1} → statement M
+qaabireed-lookup-spec =
+    tie.close
+    (tie.spec
+    returns
+    (λ c κs. search needs)
+    cast-put-lookup
+    put-lookup-requires
+    (λ c. search needs)
+    (λ c. search needs)
+    returns-2)
