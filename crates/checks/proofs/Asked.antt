@@ -22,9 +22,9 @@ use Rattle.checks.specs.Context.{knownIn, Ready}
 -- 1. The names of the whole story
 
 module _ (file : List ℕ) (c : Sections) (n : Bytes) {r : Bool} where
-  pub function-asked : r ≡ any (isFunction n) (flowsIn 0 (take (c .end - c .flows) (drop (c .flows) file))) → r ≡ knownIn c file .function n
-  unfolding known storyIn
-  function-asked e = flows-answer file n (c .flows) true (c .end) e
+  pub function-asked : r ≡ any (isFunction n) (storyIn c file .flows) → r ≡ knownIn c file .function n
+  unfolding known
+  function-asked e = e
 
   pub flow-asked : r ≡ any (isFlow n) (flowsIn 0 (take (c .end - c .flows) (drop (c .flows) file))) → r ≡ knownIn c file .flow n
   unfolding known storyIn
@@ -48,11 +48,11 @@ any-answers n (x ∷ xs) = rw (any-answers n xs) (between (same n x) (ends (46 �
     between false true p q = sym (or-true p)
     between false false p q = refl
 
-module _ (file : List ℕ) (c : Sections) (index : List ℕ) (count : ℕ) (n : Bytes) {b : Bool} (e : b ≡ one-of n (END ∷ DONE ∷ back ∷ [])) where
+module _ (file : List ℕ) (c : Sections) (n : Bytes) {b : Bool} (e : b ≡ one-of n (END ∷ DONE ∷ back ∷ [])) where
   pub target-reserved : b ≡ true → true ≡ knownIn c file .target n
   unfolding known
   target-reserved t = or-found (any (ends (46 ∷ n)) (spellings (storyIn c file))) (or-found (one-of n (spellings (storyIn c file))) e t) refl
 
-  pub target-asked : b ≡ false → Ready file c index count → {r : Bool} → r ≡ any (answers n) (rows.spellingsIn file count index) → r ≡ knownIn c file .target n
+  pub target-asked : b ≡ false → {index : List ℕ} {count : ℕ} {functions : List ℕ} → Ready file c index count functions → {r : Bool} → r ≡ any (answers n) (rows.spellingsIn file count index) → r ≡ knownIn c file .target n
   unfolding known
   target-asked f ready g = rw (← e, f) (g ∙ rw (ready .spelled) (any-answers n (spellings (storyIn c file))))

@@ -8,7 +8,7 @@ use Rattle.names.specs.Words.{Bytes, any, one-of}
 use Rattle.records.specs.Trace.{well, ends}
 use Rattle.records.specs.Grammar.{repeat}
 use Rattle.story.specs.declared.Sections.{Sections}
-use Rattle.story.specs.Story.{What, Stitch, words}
+use Rattle.story.specs.Story.{What, Stitch, words, code}
 use Rattle.story.specs.Flows.{piece, stitch, part, countedIn, piecesIn, stitchIn}
 use Rattle.story.specs.File.{InOrder, storyIn}
 use Rattle.bodies.specs.Records.{itemFrom}
@@ -16,6 +16,7 @@ use Rattle.bodies.specs.Bodies.{bodyIn, Range}
 use Rattle.bodies.specs.Search.{labelIn, tempIn}
 use Rattle.symbols.specs.Index.{spellings}
 use Rattle.symbols.specs.Rows as rows
+use Rattle.tables.specs.Functions.{Functions}
 use Rattle.rules.specs.Rules.{Known, Here, known}
 use Rattle.checks.specs.declared.ScopeView.{ScopeView}
 use Rattle.checks.specs.declared.Slot.{Slot}
@@ -23,6 +24,10 @@ use Rattle.checks.specs.declared.Slot.{Slot}
 -- what the item is to the rules
 abbrev pub whatAt : List ℕ → Slot → What
 whatAt file slot = itemFrom file (slot .place) (slot .tag) .what
+
+-- the item's sort is the one that the file gives
+abbrev pub Sorted : List ℕ → Slot → Type 0
+Sorted file slot = slot .sort ≡ code (whatAt file slot .kind)
 
 -- the names of the whole story in the file
 abbrev pub knownIn : Sections → List ℕ → Known
@@ -50,10 +55,11 @@ hereAt file v = record {
   stitched = not (v .inner) && any (λ (t : Stitch). true) (piecesIn stitchIn (v .stitches) (part (v .stitches) (v .end) file));
 }
 
--- the sections stand in order, and the index's first entries spell the story's names
-pub record Ready (file : List ℕ) (c : Sections) (index : List ℕ) (count : ℕ) : Type 0 where
+-- the sections stand in order, the index's first entries spell the story's names, and the table has its functions
+pub record Ready (file : List ℕ) (c : Sections) (index : List ℕ) (count : ℕ) (functions : List ℕ) : Type 0 where
   pub sections : InOrder c file
   pub spelled : rows.spellingsIn file count index ≡ spellings (storyIn c file)
+  pub functions-known : Functions file c functions
 
 -- the stitches from the place on to the end lie within the file and can be read
 pub record StitchesReady (file : List ℕ) (at end : ℕ) : Type 0 where

@@ -5,8 +5,9 @@ ghost use Rattle.story.specs.Story.{What};
 ghost use Rattle.story.specs.File.{InOrder};
 ghost use Rattle.rules.specs.Rules.{Known, Here};
 ghost use Rattle.rules.specs.Steps.{targets, calls, variableDiverts};
+ghost use Rattle.tables.specs.Functions.{Functions};
 ghost use Rattle.checks.specs.Judged.{judgedBy, targetJudged, callJudged, variableDivertJudged, argumentJudged};
-ghost use Rattle.checks.specs.Context.{Ready, ScopeReady, knownIn, hereAt, whatAt};
+ghost use Rattle.checks.specs.Context.{Ready, ScopeReady, Sorted, knownIn, hereAt, whatAt};
 use crate::Judged;
 use crate::ScopeView;
 use crate::Slot;
@@ -27,17 +28,25 @@ use rules::Rule;
 use story::Sections;
 
 // A target: rules 1 and 2.
-fn check_target(file: &[u8], c: Sections, index: &[u32], count: usize, target: &[u8]) -> Judged
-    requires { ⌜ Ready (now file) c (now index) count ⌝ }
+fn check_target(
+    file: &[u8],
+    c: Sections,
+    index: &[u32],
+    count: usize,
+    functions: &[u32],
+    hints: &[u32],
+    target: &[u8],
+) -> Judged
+    requires { ⌜ Ready (now file) c (now index) count (now functions) ⌝ }
     ensures { λ r. ⌜ r ≡ targetJudged (knownIn c (now (file .entry))) (now (target .entry)) ⌝ }
 {
     if passes(target) {
         return Judged::Fine;
     }
-    if is_function(file, c, target) {
+    if is_function(file, c, functions, target) {
         return Judged::Broken(Rule::FunctionDivertedTo);
     }
-    if is_target(file, c, index, count, target) {
+    if is_target(file, c, index, count, functions, hints, target) {
         return Judged::Fine;
     }
     Judged::Broken(Rule::TargetNotFound)
@@ -49,23 +58,35 @@ pub fn validate_node_divert(
     c: Sections,
     index: &[u32],
     count: usize,
+    functions: &[u32],
+    hints: &[u32],
     slot: Slot,
 ) -> Judged
-    requires { ⌜ Ready (now file) c (now index) count ⌝ }
+    requires { ⌜ Ready (now file) c (now index) count (now functions) ⌝ }
+    requires { ⌜ Sorted (now file) slot ⌝ }
     ensures { λ r. ⌜ ((h : Here) (before : List What) → r ≡ judgedBy (knownIn c (now (file .entry))) h targets before (whatAt (now (file .entry)) slot)) ⌝ }
 {
     if has_target(file, slot) {
-        return check_target(file, c, index, count, item_name(file, slot.place, slot.tag));
+        return check_target(
+            file,
+            c,
+            index,
+            count,
+            functions,
+            hints,
+            item_name(file, slot.place, slot.tag),
+        );
     }
     Judged::Fine
 }
 
 // A call name: rule 3.
-fn check_function_call_target(file: &[u8], c: Sections, name: &[u8]) -> Judged
+fn check_function_call_target(file: &[u8], c: Sections, functions: &[u32], name: &[u8]) -> Judged
     requires { ⌜ InOrder c (now file) ⌝ }
+    requires { ⌜ Functions (now file) c (now functions) ⌝ }
     ensures { λ r. ⌜ r ≡ callJudged (knownIn c (now (file .entry))) (now (name .entry)) ⌝ }
 {
-    if is_function(file, c, name) {
+    if is_function(file, c, functions, name) {
         return Judged::Fine;
     }
     if is_external(file, c, name) {
@@ -81,12 +102,24 @@ fn check_function_call_target(file: &[u8], c: Sections, name: &[u8]) -> Judged
 }
 
 // The call name of an item, of kind 16, condition 1 or expression 5: rule 3.
-pub fn validate_node_function_calls(file: &[u8], c: Sections, slot: Slot) -> Judged
+pub fn validate_node_function_calls(
+    file: &[u8],
+    c: Sections,
+    functions: &[u32],
+    slot: Slot,
+) -> Judged
     requires { ⌜ InOrder c (now file) ⌝ }
+    requires { ⌜ Functions (now file) c (now functions) ⌝ }
+    requires { ⌜ Sorted (now file) slot ⌝ }
     ensures { λ r. ⌜ ((h : Here) (before : List What) → r ≡ judgedBy (knownIn c (now (file .entry))) h calls before (whatAt (now (file .entry)) slot)) ⌝ }
 {
     if is_sort(file, slot, CALL) {
-        return check_function_call_target(file, c, item_name(file, slot.place, slot.tag));
+        return check_function_call_target(
+            file,
+            c,
+            functions,
+            item_name(file, slot.place, slot.tag),
+        );
     }
     Judged::Fine
 }
@@ -119,6 +152,7 @@ fn check_divert_target_arg(file: &[u8], scope: ScopeView, name: &[u8]) -> Judged
 // The target or the argument of an item: rules 8 and 9.
 pub fn validate_node_variable_divert_target(file: &[u8], scope: ScopeView, slot: Slot) -> Judged
     requires { ⌜ ScopeReady (now file) scope ⌝ }
+    requires { ⌜ Sorted (now file) slot ⌝ }
     ensures { λ r. ⌜ ((k : Known) (before : List What) → r ≡ judgedBy k (hereAt (now (file .entry)) scope) variableDiverts before (whatAt (now (file .entry)) slot)) ⌝ }
 {
     if has_target(file, slot) {

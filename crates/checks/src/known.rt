@@ -1,22 +1,22 @@
 // The names of the whole story: functions, flows, globals, externals and targets.
 ghost use mathlib.Core.Path.{_≡_};
 ghost use Rattle.story.specs.File.{InOrder};
+ghost use Rattle.tables.specs.Functions.{Functions};
 ghost use Rattle.checks.specs.Context.{Ready, knownIn};
 use names::is_reserved;
 use searches::is_flow_name;
-use searches::is_function_name;
 use searches::section_has_name;
 use story::Sections;
-use symbols::targets::find_target;
+use tables::functions::is_function_in;
+use tables::hints::find_target_in;
 
 // The name is a function's.
-pub fn is_function(file: &[u8], c: Sections, name: &[u8]) -> bool
+pub fn is_function(file: &[u8], c: Sections, functions: &[u32], name: &[u8]) -> bool
     requires { ⌜ InOrder c (now file) ⌝ }
+    requires { ⌜ Functions (now file) c (now functions) ⌝ }
     ensures { λ r. ⌜ r ≡ knownIn c (now (file .entry)) .function (now (name .entry)) ⌝ }
 {
-    let flows = c.flows;
-    let end = c.end;
-    is_function_name(&file[flows..end], name)
+    is_function_in(file, c, functions, name)
 }
 
 // The name is a flow's.
@@ -49,12 +49,20 @@ pub fn is_external(file: &[u8], c: Sections, name: &[u8]) -> bool
 }
 
 // The target is valid, or some spelling ends in "." and the target.
-pub fn is_target(file: &[u8], c: Sections, index: &[u32], count: usize, target: &[u8]) -> bool
-    requires { ⌜ Ready (now file) c (now index) count ⌝ }
+pub fn is_target(
+    file: &[u8],
+    c: Sections,
+    index: &[u32],
+    count: usize,
+    functions: &[u32],
+    hints: &[u32],
+    target: &[u8],
+) -> bool
+    requires { ⌜ Ready (now file) c (now index) count (now functions) ⌝ }
     ensures { λ r. ⌜ r ≡ knownIn c (now (file .entry)) .target (now (target .entry)) ⌝ }
 {
     if is_reserved(target) {
         return true;
     }
-    find_target(file, index, count, target)
+    find_target_in(file, index, count, hints, target)
 }

@@ -30,9 +30,10 @@ pub struct ScopeView {
     pub end: usize,
 }
 
-// An item of a body: its number, the place of its kind byte, and its tag.
+// An item of a body: its number, the place of its kind byte, its tag, and its sort.
 pub struct Slot {
     pub number: usize,
     pub place: usize,
     pub tag: u32,
+    pub sort: u8,
 }

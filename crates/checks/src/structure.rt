@@ -9,8 +9,9 @@ ghost use Rattle.story.specs.File.{InOrder};
 ghost use Rattle.rules.specs.Rules.{Known, Here, target};
 ghost use Rattle.rules.specs.Steps.{bracket, Step, temps, gathers, choices};
 ghost use Rattle.bodies.specs.Bodies.{bodyIn, Range};
+ghost use Rattle.tables.specs.Functions.{Functions};
 ghost use Rattle.checks.specs.Judged.{judgedBy, tempJudged, paramJudged, stitchJudged};
-ghost use Rattle.checks.specs.Context.{ScopeReady, knownIn, hereAt, whatAt};
+ghost use Rattle.checks.specs.Context.{ScopeReady, Sorted, knownIn, hereAt, whatAt};
 use crate::Judged;
 use crate::ScopeView;
 use crate::Slot;
@@ -27,7 +28,6 @@ use bodies::items::TUNNEL;
 use bodies::items::choice_has_explicit_divert;
 use bodies::items::in_branch;
 use bodies::items::item_name;
-use bodies::items::sort_at;
 use bodies::searches::has_gather_before;
 use names::is_end_or_done;
 use rules::Rule;
@@ -35,13 +35,15 @@ use story::Sections;
 
 // The item is of the sort.
 pub fn is_sort(file: &[u8], slot: Slot, sort: u8) -> bool
+    requires { ⌜ Sorted (now file) slot ⌝ }
     ensures { λ r. ⌜ r ≡ eqb sort (code (whatAt (now (file .entry)) slot .kind)) ⌝ }
 {
-    sort == sort_at(file, slot.place, slot.tag)
+    sort == slot.sort
 }
 
 // The item has a target: it is a divert, a tunnel or a thread.
 pub fn has_target(file: &[u8], slot: Slot) -> bool
+    requires { ⌜ Sorted (now file) slot ⌝ }
     ensures { λ r. ⌜ r ≡ target (whatAt (now (file .entry)) slot) ⌝ }
 {
     if is_sort(file, slot, DIVERT) {
@@ -57,16 +59,18 @@ pub fn has_target(file: &[u8], slot: Slot) -> bool
 fn check_temp_name(
     file: &[u8],
     c: Sections,
+    functions: &[u32],
     scope: ScopeView,
     name: &[u8],
     scratch: &mut [u32],
 ) -> Judged
     requires { ⌜ InOrder c (now file) ⌝ }
+    requires { ⌜ Functions (now file) c (now functions) ⌝ }
     requires { ⌜ ScopeReady (now file) scope ⌝ }
     requires { ⌜ 2 ≤ length (now scratch) ⌝ }
     ensures { λ r. ⌜ r ≡ tempJudged (knownIn c (now (file .entry))) (hereAt (now (file .entry)) scope) (now (name .entry)) ⌝ }
 {
-    if is_function(file, c, name) {
+    if is_function(file, c, functions, name) {
         return Judged::Broken(Rule::NameIsFunction);
     }
     if is_parameter(file, scope, name) {
@@ -82,19 +86,23 @@ fn check_temp_name(
 pub fn validate_temp_name(
     file: &[u8],
     c: Sections,
+    functions: &[u32],
     scope: ScopeView,
     slot: Slot,
     scratch: &mut [u32],
 ) -> Judged
     requires { ⌜ InOrder c (now file) ⌝ }
+    requires { ⌜ Functions (now file) c (now functions) ⌝ }
     requires { ⌜ ScopeReady (now file) scope ⌝ }
     requires { ⌜ 2 ≤ length (now scratch) ⌝ }
+    requires { ⌜ Sorted (now file) slot ⌝ }
     ensures { λ r. ⌜ ((before : List What) → r ≡ judgedBy (knownIn c (now (file .entry))) (hereAt (now (file .entry)) scope) temps before (whatAt (now (file .entry)) slot)) ⌝ }
 {
     if is_sort(file, slot, TEMP) {
         return check_temp_name(
             file,
             c,
+            functions,
             scope,
             item_name(file, slot.place, slot.tag),
             scratch,
@@ -113,6 +121,7 @@ pub fn check_gather_label(
 ) -> Judged
     requires { ⌜ Range (now file) from to ⌝ }
     requires { ⌜ 2 ≤ length (now scratch) ⌝ }
+    requires { ⌜ Sorted (now file) slot ⌝ }
     ensures { λ r. ⌜ ((k : Known) (h : Here) → r ≡ judgedBy k h gathers (take (slot .number) (whats (bodyIn (now (file .entry)) from to))) (whatAt (now (file .entry)) slot)) ⌝ }
 {
     if is_sort(file, slot, GATHER) {
@@ -126,6 +135,7 @@ pub fn check_gather_label(
 
 // A choice directly in a branch that does not leave it: rule 11.
 pub fn check_no_direct_choice_in_branch(file: &[u8], slot: Slot) -> Judged
+    requires { ⌜ Sorted (now file) slot ⌝ }
     ensures { λ r. ⌜ ((k : Known) (h : Here) (before : List What) → r ≡ judgedBy k h choices before (whatAt (now (file .entry)) slot)) ⌝ }
 {
     if is_sort(file, slot, CHOICE) {
@@ -141,6 +151,7 @@ pub fn check_no_direct_choice_in_branch(file: &[u8], slot: Slot) -> Judged
 
 // A choice, or a divert to neither END nor DONE, in a function: rules 13 and 14.
 pub fn check_function_body_purity(file: &[u8], slot: Slot) -> Judged
+    requires { ⌜ Sorted (now file) slot ⌝ }
     ensures { λ r. ⌜ ((k : Known) (h : Here) (before : List What) → r ≡ judgedBy k h (bracket Step.s5) before (whatAt (now (file .entry)) slot)) ⌝ }
 {
     if is_sort(file, slot, CHOICE) {
@@ -156,11 +167,12 @@ pub fn check_function_body_purity(file: &[u8], slot: Slot) -> Judged
 }
 
 // A parameter's name: rules 4 and 5.
-pub fn check_parameter_name(file: &[u8], c: Sections, name: &[u8]) -> Judged
+pub fn check_parameter_name(file: &[u8], c: Sections, functions: &[u32], name: &[u8]) -> Judged
     requires { ⌜ InOrder c (now file) ⌝ }
+    requires { ⌜ Functions (now file) c (now functions) ⌝ }
     ensures { λ r. ⌜ r ≡ paramJudged (knownIn c (now (file .entry))) (now (name .entry)) ⌝ }
 {
-    if is_function(file, c, name) {
+    if is_function(file, c, functions, name) {
         return Judged::Broken(Rule::NameIsFunction);
     }
     if is_global(file, c, name) {

@@ -7,7 +7,7 @@ ghost use Rattle.story.specs.Story.{What};
 ghost use Rattle.rules.specs.Rules.{Known};
 ghost use Rattle.rules.specs.Steps.{bracket, Step};
 ghost use Rattle.checks.specs.Judged.{judgedBy};
-ghost use Rattle.checks.specs.Context.{ScopeReady, hereAt, whatAt};
+ghost use Rattle.checks.specs.Context.{ScopeReady, Sorted, hereAt, whatAt};
 use crate::Judged;
 use crate::ScopeView;
 use crate::Slot;
@@ -21,6 +21,7 @@ use rules::Rule;
 pub fn validate_node_vars(file: &[u8], scope: ScopeView, slot: Slot, scratch: &mut [u32]) -> Judged
     requires { ⌜ ScopeReady (now file) scope ⌝ }
     requires { ⌜ 2 ≤ length (now scratch) ⌝ }
+    requires { ⌜ Sorted (now file) slot ⌝ }
     ensures { λ r. ⌜ ((k : Known) (before : List What) → r ≡ judgedBy k (hereAt (now (file .entry)) scope) (bracket Step.s17) before (whatAt (now (file .entry)) slot)) ⌝ }
 {
     if is_sort(file, slot, VARIABLE) {

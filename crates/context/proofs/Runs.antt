@@ -55,28 +55,21 @@ module _ {A : Type 0} (s : Story) (f : A → List Run) {ts : List A} where
 
 -- 2. Passes are steps
 
-module _ (k : Known) (h : Here) (flow : ℕ) (items : List Item) where
-  pub passes-append : (ps qs : List Pass) → foundPasses k h flow (ps ++ qs) items ≡ orElse (foundPasses k h flow ps items) (foundPasses k h flow qs items)
-  unfolding foundPasses orElse
-  passes-append [] qs = refl
-  passes-append (p ∷ ps) qs =
-      rw (passes-append ps qs) (sym (or-assoc (foundAlong k h flow (rulesOf p) [] items) (foundPasses k h flow ps items) (foundPasses k h flow qs items)))
-
 module _ (s : Story) (scope : Scope) (items : List Item) where
   flow-passes : foundPasses (known s) (here s scope) (flowNamed scope) (passesFrom 0 5) items ≡ foundRuns s (over scope items flowSteps)
   unfolding foundPasses passesFrom passAt rulesOf foundRuns foundIn over
   flow-passes = refl
 
-  stitch-passes : foundPasses (known s) (here s scope) (flowNamed scope) (passesFrom 0 3 ++ passesFrom 4 3) items ≡ foundRuns s (over scope items stitchSteps)
+  stitch-passes : foundPasses (known s) (here s scope) (flowNamed scope) (passesFrom 5 6) items ≡ foundRuns s (over scope items stitchSteps)
   unfolding foundPasses passesFrom passAt rulesOf foundRuns foundIn over
   stitch-passes = refl
 
   -- steps 19 and 20
-  gather-passes : (step : Step) → gathers ≡ bracket step → foundPasses (known s) (here s scope) (flowNamed scope) (passesFrom 6 1) items ≡ foundRuns s (over scope items (step ∷ []))
+  gather-passes : (step : Step) → gathers ≡ bracket step → foundPasses (known s) (here s scope) (flowNamed scope) (passesFrom 10 1) items ≡ foundRuns s (over scope items (step ∷ []))
   unfolding foundPasses passesFrom passAt rulesOf foundRuns foundIn over
   gather-passes step e = rw e
 
-  purity-passes : foundPasses (known s) (here s scope) (flowNamed scope) (passesFrom 7 1) items ≡ foundRuns s (over scope items (s5 ∷ []))
+  purity-passes : foundPasses (known s) (here s scope) (flowNamed scope) (passesFrom 11 1) items ≡ foundRuns s (over scope items (s5 ∷ []))
   unfolding foundPasses passesFrom passAt rulesOf foundRuns foundIn over
   purity-passes = refl
 
@@ -91,7 +84,7 @@ module _ (file : List ℕ) (c : Sections) {r : Found} where
   unfolding storyIn
   root-run e = e ∙ rw (← root-here file c) (root-passes (storyIn c file) (storyIn c file .root))
 
-  pub root-gathers : r ≡ passesFound file c (rootView c (length file)) (passesFrom 6 1) → r ≡ foundRuns (storyIn c file) (over root (storyIn c file .root) (s20 ∷ []))
+  pub root-gathers : r ≡ passesFound file c (rootView c (length file)) (passesFrom 10 1) → r ≡ foundRuns (storyIn c file) (over root (storyIn c file .root) (s20 ∷ []))
   unfolding storyIn
   root-gathers e = e ∙ rw (← root-here file c) (gather-passes (storyIn c file) root (storyIn c file .root) s20 refl)
 
@@ -101,7 +94,7 @@ module _ (file : List ℕ) (c : Sections) (v : FlowView) (ready : FlowReady file
   pub flow-run : r ≡ passesFound file c (knotView v) (passesFrom 0 5) → r ≡ foundRuns (storyIn c file) (over (knot (viewedFlow file v)) (viewedFlow file v .body) flowSteps)
   flow-run e = e ∙ rw (← knot-here file c v ready) (flow-passes (storyIn c file) (knot (viewedFlow file v)) (viewedFlow file v .body))
 
-  pub flow-gathers : r ≡ passesFound file c (knotView v) (passesFrom 6 1) → r ≡ foundRuns (storyIn c file) (over (knot (viewedFlow file v)) (viewedFlow file v .body) (s19 ∷ []))
+  pub flow-gathers : r ≡ passesFound file c (knotView v) (passesFrom 10 1) → r ≡ foundRuns (storyIn c file) (over (knot (viewedFlow file v)) (viewedFlow file v .body) (s19 ∷ []))
   flow-gathers e = e ∙ rw (← knot-here file c v ready) (gather-passes (storyIn c file) (knot (viewedFlow file v)) (viewedFlow file v .body) s19 refl)
 
   pub params-run : ((h : Here) → r ≡ paramsFound file c h (v .name) (viewedFlow file v .params))
@@ -134,7 +127,7 @@ module _ (file : List ℕ) (c : Sections) (v : FlowView) (ready : FlowReady file
     unfolding orElse foundAt
     purity-stitched g k = sym (purity-run f ∙ rw (← e, g, ← k))
 
-    pub purity-body : t ≡ false → {r : Found} → r ≡ passesFound file c (knotView v) (passesFrom 7 1)
+    pub purity-body : t ≡ false → {r : Found} → r ≡ passesFound file c (knotView v) (passesFrom 11 1)
         → r ≡ foundRuns (storyIn c file) (over (knot (viewedFlow file v)) (purityItems (v .function) (viewedFlow file v)) (s5 ∷ []))
     unfolding orElse foundAt
     purity-body g k =
@@ -150,23 +143,10 @@ module _ (file : List ℕ) (c : Sections) (v : FlowView) (ready : FlowReady file
       e (here (storyIn c file) (stitch (viewedFlow file v) (viewedStitch file w)))
       ∙ sym (runs-one (storyIn c file) (stitch (viewedFlow file v) (viewedStitch file w)) (stitchItems (viewedStitch file w)) s12)
 
-  -- the passes before variable diverts, and those from them on
-  stitch-run : foundRuns (storyIn c file) (over (stitch (viewedFlow file v) (viewedStitch file w)) (viewedStitch file w .body) stitchSteps)
-      ≡ orElse (passesFound file c (stitchView v w) (passesFrom 0 3)) (passesFound file c (stitchView v w) (passesFrom 4 3))
-  stitch-run =
-      sym (stitch-passes (storyIn c file) (stitch (viewedFlow file v) (viewedStitch file w)) (viewedStitch file w .body))
-      ∙ rw (stitch-here file c v ready w)
-      (passes-append (knownIn c file) (hereAt file (stitchView v w)) (v .name) (viewedStitch file w .body) (passesFrom 0 3) (passesFrom 4 3))
-
-  pub stitch-first : {r : Found} {b : BreachAt} → r ≡ passesFound file c (stitchView v w) (passesFrom 0 3) → r ≡ found.Breach b
+  pub stitch-run : {r : Found} → r ≡ passesFound file c (stitchView v w) (passesFrom 5 6)
       → r ≡ foundRuns (storyIn c file) (over (stitch (viewedFlow file v) (viewedStitch file w)) (viewedStitch file w .body) stitchSteps)
-  unfolding orElse
-  stitch-first e f = sym (stitch-run ∙ rw (← e, f))
-
-  pub stitch-last : {q r : Found} → q ≡ passesFound file c (stitchView v w) (passesFrom 0 3) → q ≡ found.Clear → r ≡ passesFound file c (stitchView v w) (passesFrom 4 3)
-      → r ≡ foundRuns (storyIn c file) (over (stitch (viewedFlow file v) (viewedStitch file w)) (viewedStitch file w .body) stitchSteps)
-  unfolding orElse
-  stitch-last e f g = sym (stitch-run ∙ rw (← e, f) (sym g))
+  stitch-run e =
+      e ∙ rw (← stitch-here file c v ready w) (stitch-passes (storyIn c file) (stitch (viewedFlow file v) (viewedStitch file w)) (viewedStitch file w .body))
 
 -- 7. Whole flows, and the story
 

@@ -29,13 +29,13 @@ use Rattle.context.proofs.Along.{along-passed, along-found, along-none}
 -- 1. Items
 
 -- what stands before the item after this one
-taken : (body : List Item) (i : ℕ) {x : Item} {ys : List Item} → drop i body ≡ x ∷ ys → take (suc i) (whats body) ≡ take i (whats body) ++ (x .what ∷ [])
+pub taken : (body : List Item) (i : ℕ) {x : Item} {ys : List Item} → drop i body ≡ x ∷ ys → take (suc i) (whats body) ≡ take i (whats body) ++ (x .what ∷ [])
 taken [] zero e = absurd (nil≢cons e)
 taken [] (suc i) e = absurd (nil≢cons e)
 taken (y ∷ body) zero e = cc
 taken (y ∷ body) (suc i) e = ap (λ (l : List What). y .what ∷ l) (taken body i e)
 
-past-all : (body : List Item) (i : ℕ) → length body ≤ i → drop i body ≡ []
+pub past-all : (body : List Item) (i : ℕ) → length body ≤ i → drop i body ≡ []
 past-all [] zero h = refl
 past-all [] (suc i) h = refl
 past-all (x ∷ body) zero h = absurd (omega arith)

@@ -1,5 +1,6 @@
 -- What the check finds: the first breach along a step, a flow or the story, without the number of the step. Assumes nothing.
 use Prim.Native.Nat.{ℕ, zero, suc, _+_}
+use mathlib.Core.Bool.{Bool, true, false, _&&_}
 use mathlib.Core.List.{List, [], _∷_, _++_}
 use mathlib.Core.Option.{Option, none, some}
 use lib.ListN.{getD}
@@ -61,9 +62,11 @@ rulesOf pass.Variables = bracket s17
 rulesOf pass.Gathers = gathers
 rulesOf pass.Purity = bracket s5
 
--- the passes in their order, but the last
+-- the passes of the root and of a flow, then those of a stitch, in the order of the steps
 abbrev pub passes : List Pass
-passes = pass.Temps ∷ pass.Targets ∷ pass.Calls ∷ pass.Choices ∷ pass.VariableDiverts ∷ pass.Variables ∷ pass.Gathers ∷ []
+passes =
+    pass.Temps ∷ pass.Targets ∷ pass.Calls ∷ pass.Choices ∷ pass.VariableDiverts
+    ∷ pass.Temps ∷ pass.Targets ∷ pass.Calls ∷ pass.VariableDiverts ∷ pass.Variables ∷ pass.Gathers ∷ []
 
 unfoldable pub passAt : ℕ → Pass
 passAt n = getD passes n pass.Purity
@@ -77,3 +80,18 @@ passesFrom first (suc n) = passAt first ∷ passesFrom (first + 1) n
 unfoldable pub foundPasses : Known → Here → ℕ → List Pass → List Item → Found
 foundPasses k h flow [] items = found.Clear
 foundPasses k h flow (p ∷ ps) items = orElse (foundAlong k h flow (rulesOf p) [] items) (foundPasses k h flow ps items)
+
+-- no rule is broken
+abbrev pub isFine : Judged → Bool
+isFine judged.Fine = true
+isFine (judged.Broken r) = false
+
+-- no rule of the passes is broken at w, where `before` are the items earlier in the same body
+unfoldable pub clearAt : Known → Here → List Pass → List What → What → Bool
+clearAt k h [] before w = true
+clearAt k h (p ∷ ps) before w = isFine (judgedBy k h (rulesOf p) before w) && clearAt k h ps before w
+
+-- nor at any of the items
+unfoldable pub clearAlong : Known → Here → List Pass → List What → List Item → Bool
+clearAlong k h ps before [] = true
+clearAlong k h ps before (i ∷ is) = clearAt k h ps before (i .what) && clearAlong k h ps (before ++ (i .what ∷ [])) is

@@ -1,7 +1,7 @@
 -- The root, a flow and a stitch by their places, what holds while their steps run, and what the steps find. Assumes nothing.
 use Prim.Native.Nat.{ℕ, _≤_, _<_}
 use mathlib.Core.Path.{_≡_}
-use mathlib.Core.Bool.{true, false}
+use mathlib.Core.Bool.{Bool, true, false}
 use mathlib.Core.List.{List, [], _∷_, _++_}
 use lib.ListN.{length}
 use Rattle.names.specs.Counted.{nameAt}
@@ -22,7 +22,7 @@ use Rattle.checks.specs.Context.{knownIn, hereAt, StitchesReady}
 use Rattle.context.specs.declared.Found.{Found}
 use Rattle.context.specs.declared.Found.the-variants as found
 use Rattle.context.specs.declared.Pass.{Pass}
-use Rattle.context.specs.Found.{foundAlong, foundRuns, foundPasses}
+use Rattle.context.specs.Found.{foundAlong, foundRuns, foundPasses, clearAlong}
 
 -- 1. The root of a file of so many bytes, a flow, a stitch of a flow
 
@@ -106,6 +106,14 @@ pub record Walked (file : List ℕ) (c : Sections) (v : ScopeView) (rules : List
 
 abbrev pub passesFound : List ℕ → Sections → ScopeView → List Pass → Found
 passesFound file c v ps = foundPasses (knownIn c file) (hereAt file v) (v .flow) ps (bodyIn file (v .from) (v .to))
+
+-- no rule of the passes is broken along the body
+abbrev pub passesClear : List ℕ → Sections → ScopeView → List Pass → Bool
+passesClear file c v ps = clearAlong (knownIn c file) (hereAt file v) ps [] (bodyIn file (v .from) (v .to))
+
+pub record Cleared (file : List ℕ) (c : Sections) (v : ScopeView) (ps : List Pass) (items : ℕ) (r : Bool) (batch : List ℕ) : Type 0 where
+  pub answer : r ≡ passesClear file c v ps
+  pub held : Held file v items batch
 
 -- passes along the body
 pub record Passed (file : List ℕ) (c : Sections) (v : ScopeView) (ps : List Pass) (items : ℕ) (r : Found) (batch : List ℕ) : Type 0 where

@@ -8,12 +8,13 @@ ghost use Rattle.story.specs.declared.Opened.the-variants as Opened;
 ghost use Rattle.searches.specs.Views.{viewedFlow, viewedStitch};
 ghost use Rattle.rules.specs.Steps.{stitchRuns, flowRuns, verdict};
 ghost use Rattle.checks.specs.Context.{Ready, ScopeReady};
+ghost use Rattle.filters.specs.Names.{Declared};
 ghost use Rattle.context.specs.Found.{foundOf, foundRuns, passesFrom};
 ghost use Rattle.context.specs.Scopes.{FlowReady, StitchReady, FlowsReady, passesFound, flowStepsRuns};
 use crate::Found;
 use crate::passes::GATHERS;
-use crate::passes::TEMPS;
-use crate::passes::VARIABLE_DIVERTS;
+use crate::passes::INNER;
+use crate::passes::OUTER;
 use crate::passes::validate_passes;
 use crate::scopes::knot_scope;
 use crate::scopes::root_scope;
@@ -23,6 +24,7 @@ use crate::structure::validate_function_purity;
 use crate::structure::validate_stitch_name;
 use bodies::windows::count_items;
 use checks::ScopeView;
+use filters::declared::put_declared;
 use searches::views::FlowView;
 use searches::views::FlowViewRead;
 use searches::views::StitchView;
@@ -39,14 +41,19 @@ fn validate_body(
     c: Sections,
     index: &[u32],
     count: usize,
+    functions: &[u32],
+    hints: &[u32],
     scope: ScopeView,
+    declared: &[u8],
+    gathers: &mut [u8],
     batch: &mut [u32],
     scratch: &mut [u32],
 ) -> Found
-    requires { ⌜ first + many ≤ 8 ⌝ }
-    requires { ⌜ Ready (now file) c (now index) count ⌝ }
+    requires { ⌜ first + many ≤ 12 ⌝ }
+    requires { ⌜ Ready (now file) c (now index) count (now functions) ⌝ }
     requires { ⌜ ScopeReady (now file) scope ⌝ }
     requires { ⌜ (2 ≤ length (now batch)) × (2 ≤ length (now scratch)) ⌝ }
+    requires { ⌜ Declared (now file) (scope .outer) (scope .body) (scope .stitches) (now declared) ⌝ }
     ensures { λ r. ⌜ r ≡ passesFound (now (file .entry)) c scope (passesFrom first many) ⌝ }
 {
     let items = count_items(file, scope.from, scope.to, batch);
@@ -57,8 +64,12 @@ fn validate_body(
         c,
         index,
         count,
+        functions,
+        hints,
         scope,
         items,
+        declared,
+        gathers,
         batch,
         scratch,
     )
@@ -70,34 +81,57 @@ fn validate_flow(
     c: Sections,
     index: &[u32],
     count: usize,
+    functions: &[u32],
+    hints: &[u32],
     v: FlowView,
+    declared: &[u8],
+    gathers: &mut [u8],
     batch: &mut [u32],
     scratch: &mut [u32],
 ) -> Found
-    requires { ⌜ Ready (now file) c (now index) count ⌝ }
+    requires { ⌜ Ready (now file) c (now index) count (now functions) ⌝ }
     requires { ⌜ FlowReady (now file) v ⌝ }
     requires { ⌜ (2 ≤ length (now batch)) × (2 ≤ length (now scratch)) ⌝ }
+    requires { ⌜ Declared (now file) (v .params) (v .from) (v .stitches) (now declared) ⌝ }
     ensures { λ r. ⌜ r ≡ foundRuns (storyIn c (now (file .entry))) (flowStepsRuns (viewedFlow (now (file .entry)) v)) ⌝ }
 {
     let scope = knot_scope(v);
     let items = count_items(file, v.from, v.to, batch);
-    let purity = validate_function_purity(file, c, index, count, v, scope, items, batch, scratch);
+    let purity = validate_function_purity(
+        file,
+        c,
+        index,
+        count,
+        functions,
+        hints,
+        v,
+        scope,
+        items,
+        declared,
+        gathers,
+        batch,
+        scratch,
+    );
     if let Found::Breach(_) = purity {
         return purity;
     }
-    let params = validate_flow_parameter_names(file, c, v.name, v.params);
+    let params = validate_flow_parameter_names(file, c, functions, v.name, v.params);
     if let Found::Breach(_) = params {
         return params;
     }
     validate_passes(
-        TEMPS,
+        OUTER,
         5,
         file,
         c,
         index,
         count,
+        functions,
+        hints,
         scope,
         items,
+        declared,
+        gathers,
         batch,
         scratch,
     )
@@ -109,15 +143,20 @@ fn validate_stitch(
     c: Sections,
     index: &[u32],
     count: usize,
+    functions: &[u32],
+    hints: &[u32],
     v: FlowView,
     w: StitchView,
+    declared: &[u8],
+    gathers: &mut [u8],
     batch: &mut [u32],
     scratch: &mut [u32],
 ) -> Found
-    requires { ⌜ Ready (now file) c (now index) count ⌝ }
+    requires { ⌜ Ready (now file) c (now index) count (now functions) ⌝ }
     requires { ⌜ FlowReady (now file) v ⌝ }
     requires { ⌜ StitchReady (now file) w ⌝ }
     requires { ⌜ (2 ≤ length (now batch)) × (2 ≤ length (now scratch)) ⌝ }
+    requires { ⌜ Declared (now file) (v .params) (v .from) (v .stitches) (now declared) ⌝ }
     ensures { λ r. ⌜ r ≡ foundRuns (storyIn c (now (file .entry))) (stitchRuns (viewedFlow (now (file .entry)) v) (viewedStitch (now (file .entry)) w)) ⌝ }
 {
     let scope = stitch_scope(v, w);
@@ -125,31 +164,18 @@ fn validate_stitch(
     if let Found::Breach(_) = name {
         return name;
     }
-    let items = count_items(file, w.from, w.to, batch);
-    let first = validate_passes(
-        TEMPS,
-        3,
+    validate_body(
+        INNER,
+        6,
         file,
         c,
         index,
         count,
+        functions,
+        hints,
         scope,
-        items,
-        batch,
-        scratch,
-    );
-    if let Found::Breach(_) = first {
-        return first;
-    }
-    validate_passes(
-        VARIABLE_DIVERTS,
-        3,
-        file,
-        c,
-        index,
-        count,
-        scope,
-        items,
+        declared,
+        gathers,
         batch,
         scratch,
     )
@@ -161,13 +187,18 @@ fn validate_stitches(
     c: Sections,
     index: &[u32],
     count: usize,
+    functions: &[u32],
+    hints: &[u32],
     v: FlowView,
+    declared: &[u8],
+    gathers: &mut [u8],
     batch: &mut [u32],
     scratch: &mut [u32],
 ) -> Found
-    requires { ⌜ Ready (now file) c (now index) count ⌝ }
+    requires { ⌜ Ready (now file) c (now index) count (now functions) ⌝ }
     requires { ⌜ FlowReady (now file) v ⌝ }
     requires { ⌜ (2 ≤ length (now batch)) × (2 ≤ length (now scratch)) ⌝ }
+    requires { ⌜ Declared (now file) (v .params) (v .from) (v .stitches) (now declared) ⌝ }
     ensures { λ r. ⌜ r ≡ foundRuns (storyIn c (now (file .entry))) (each (stitchRuns (viewedFlow (now (file .entry)) v)) (viewedFlow (now (file .entry)) v .stitches)) ⌝ }
 {
     let end = v.end;
@@ -176,7 +207,20 @@ fn validate_stitches(
         let StitchViewRead::View(w) = stitch_view(file, at, end) else {
             return Found::Clear;
         };
-        let found = validate_stitch(file, c, index, count, v, w, batch, scratch);
+        let found = validate_stitch(
+            file,
+            c,
+            index,
+            count,
+            functions,
+            hints,
+            v,
+            w,
+            declared,
+            gathers,
+            batch,
+            scratch,
+        );
         if let Found::Breach(_) = found {
             return found;
         }
@@ -190,20 +234,49 @@ fn validate_whole_flow(
     c: Sections,
     index: &[u32],
     count: usize,
+    functions: &[u32],
+    hints: &[u32],
     v: FlowView,
+    declared: &mut [u8],
+    gathers: &mut [u8],
     batch: &mut [u32],
     scratch: &mut [u32],
 ) -> Found
-    requires { ⌜ Ready (now file) c (now index) count ⌝ }
+    requires { ⌜ Ready (now file) c (now index) count (now functions) ⌝ }
     requires { ⌜ FlowReady (now file) v ⌝ }
     requires { ⌜ (2 ≤ length (now batch)) × (2 ≤ length (now scratch)) ⌝ }
     ensures { λ r. ⌜ r ≡ foundRuns (storyIn c (now (file .entry))) (flowRuns (viewedFlow (now (file .entry)) v)) ⌝ }
 {
-    let own = validate_flow(file, c, index, count, v, batch, scratch);
+    put_declared(file, v.params, v.from, v.stitches, declared, scratch);
+    let own = validate_flow(
+        file,
+        c,
+        index,
+        count,
+        functions,
+        hints,
+        v,
+        declared,
+        gathers,
+        batch,
+        scratch,
+    );
     if let Found::Breach(_) = own {
         return own;
     }
-    let stitches = validate_stitches(file, c, index, count, v, batch, scratch);
+    let stitches = validate_stitches(
+        file,
+        c,
+        index,
+        count,
+        functions,
+        hints,
+        v,
+        declared,
+        gathers,
+        batch,
+        scratch,
+    );
     if let Found::Breach(_) = stitches {
         return stitches;
     }
@@ -214,10 +287,29 @@ fn validate_whole_flow(
         c,
         index,
         count,
+        functions,
+        hints,
         knot_scope(v),
+        declared,
+        gathers,
         batch,
         scratch,
     )
+}
+
+// How much of a filter for what the flow declares is used, of so many bytes: none where the flow has no stitches, else no more than its body has.
+fn declared_room(v: FlowView, bytes: usize) -> usize
+    requires { ⌜ v .from ≤ v .to ⌝ }
+    ensures { λ r. ⌜ r ≤ bytes ⌝ }
+{
+    if v.stitches == v.end {
+        return 0;
+    }
+    let length = v.to - v.from;
+    if length < bytes {
+        return length;
+    }
+    bytes
 }
 
 // Steps 5 to 19, of the flows one after the other.
@@ -226,10 +318,14 @@ fn validate_flows(
     c: Sections,
     index: &[u32],
     count: usize,
+    functions: &[u32],
+    hints: &[u32],
+    declared: &mut [u8],
+    gathers: &mut [u8],
     batch: &mut [u32],
     scratch: &mut [u32],
 ) -> Found
-    requires { ⌜ Ready (now file) c (now index) count ⌝ }
+    requires { ⌜ Ready (now file) c (now index) count (now functions) ⌝ }
     requires { ⌜ FlowsReady (now file) (c .flows) (c .end) ⌝ }
     requires { ⌜ (2 ≤ length (now batch)) × (2 ≤ length (now scratch)) ⌝ }
     ensures { λ r. ⌜ r ≡ foundRuns (storyIn c (now (file .entry))) (each flowRuns (storyIn c (now (file .entry)) .flows)) ⌝ }
@@ -240,7 +336,20 @@ fn validate_flows(
         let FlowViewRead::View(v) = flow_view(file, at, end) else {
             return Found::Clear;
         };
-        let found = validate_whole_flow(file, c, index, count, v, batch, scratch);
+        let room = declared_room(v, declared.len());
+        let found = validate_whole_flow(
+            file,
+            c,
+            index,
+            count,
+            functions,
+            hints,
+            v,
+            &mut declared[..room],
+            gathers,
+            batch,
+            scratch,
+        );
         if let Found::Breach(_) = found {
             return found;
         }
@@ -254,22 +363,65 @@ pub fn validate_story(
     c: Sections,
     index: &[u32],
     count: usize,
+    functions: &[u32],
+    hints: &[u32],
+    declared: &mut [u8],
+    gathers: &mut [u8],
     batch: &mut [u32],
     scratch: &mut [u32],
 ) -> Found
-    requires { ⌜ Ready (now file) c (now index) count ⌝ }
+    requires { ⌜ Ready (now file) c (now index) count (now functions) ⌝ }
     requires { ⌜ readOf (now file) ≡ Opened.At c ⌝ }
     requires { ⌜ (2 ≤ length (now batch)) × (2 ≤ length (now scratch)) ⌝ }
     ensures { λ r. ⌜ r ≡ foundOf (verdict (storyIn c (now (file .entry)))) ⌝ }
 {
     let scope = root_scope(c, file.len());
-    let root = validate_body(TEMPS, 4, file, c, index, count, scope, batch, scratch);
+    let root = validate_body(
+        OUTER,
+        4,
+        file,
+        c,
+        index,
+        count,
+        functions,
+        hints,
+        scope,
+        &file[..0],
+        gathers,
+        batch,
+        scratch,
+    );
     if let Found::Breach(_) = root {
         return root;
     }
-    let flows = validate_flows(file, c, index, count, batch, scratch);
+    let flows = validate_flows(
+        file,
+        c,
+        index,
+        count,
+        functions,
+        hints,
+        declared,
+        gathers,
+        batch,
+        scratch,
+    );
     if let Found::Breach(_) = flows {
         return flows;
     }
-    validate_body(GATHERS, 1, file, c, index, count, scope, batch, scratch)
+    validate_body(
+        GATHERS,
+        1,
+        file,
+        c,
+        index,
+        count,
+        functions,
+        hints,
+        scope,
+        &file[..0],
+        gathers,
+        batch,
+        scratch,
+    )
 }

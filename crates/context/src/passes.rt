@@ -5,13 +5,16 @@ ghost use lib.ListN.{length, take};
 ghost use Rattle.story.specs.Story.{whats};
 ghost use Rattle.bodies.specs.Bodies.{bodyIn, Range, Fetched};
 ghost use Rattle.checks.specs.Judged.{judgedBy};
-ghost use Rattle.checks.specs.Context.{Ready, ScopeReady, knownIn, hereAt, whatAt};
-ghost use Rattle.context.specs.Found.{rulesOf, passAt, passesFrom};
-ghost use Rattle.context.specs.Scopes.{Held, Walked, Passed};
+ghost use Rattle.checks.specs.Context.{Ready, ScopeReady, Sorted, knownIn, hereAt, whatAt};
+ghost use Rattle.filters.specs.Names.{Declared, Gathered};
+ghost use Rattle.context.specs.Found.{rulesOf, passAt, passesFrom, clearAt};
+ghost use Rattle.context.specs.Scopes.{Held, Walked, Cleared, Passed};
 use crate::Found;
 use crate::Pass;
 use crate::breaches::breach_at;
+use bodies::items::PLAIN;
 use bodies::items::named_at;
+use bodies::items::sort_at;
 use bodies::windows::count_items;
 use bodies::windows::fetch;
 use checks::Judged;
@@ -21,20 +24,22 @@ use checks::diverts::validate_node_divert;
 use checks::diverts::validate_node_function_calls;
 use checks::diverts::validate_node_variable_divert_target;
 use checks::structure::check_function_body_purity;
-use checks::structure::check_gather_label;
 use checks::structure::check_no_direct_choice_in_branch;
 use checks::structure::validate_temp_name;
-use checks::variables::validate_node_vars;
+use filters::declared::validate_node_vars_in;
+use filters::gathers::check_gather_label_in;
+use filters::gathers::pass_item;
+use filters::words::clear_filter;
 use story::Sections;
 
-// The passes in their order: a step's number among those of its flow or stitch.
-pub const TEMPS: u8 = 0;
+// The numbers of passes: those of the root and of a flow from 0 on, those of a stitch from 5 on, in the order of the steps.
+pub const OUTER: u8 = 0;
 
-pub const VARIABLE_DIVERTS: u8 = 4;
+pub const INNER: u8 = 5;
 
-pub const GATHERS: u8 = 6;
+pub const GATHERS: u8 = 10;
 
-pub const PURITY: u8 = 7;
+pub const PURITY: u8 = 11;
 
 // The pass of a number.
 fn pass_at(number: u8) -> Pass
@@ -46,9 +51,13 @@ fn pass_at(number: u8) -> Pass
         2 => Pass::Calls,
         3 => Pass::Choices,
         4 => Pass::VariableDiverts,
-        5 => Pass::Variables,
-        6 => Pass::Gathers,
-        7..=255 => Pass::Purity,
+        5 => Pass::Temps,
+        6 => Pass::Targets,
+        7 => Pass::Calls,
+        8 => Pass::VariableDiverts,
+        9 => Pass::Variables,
+        10 => Pass::Gathers,
+        11..=255 => Pass::Purity,
     }
 }
 
@@ -59,23 +68,30 @@ fn judge(
     c: Sections,
     index: &[u32],
     count: usize,
+    functions: &[u32],
+    hints: &[u32],
     scope: ScopeView,
     slot: Slot,
+    declared: &[u8],
+    gathers: &[u8],
     scratch: &mut [u32],
 ) -> Judged
-    requires { ⌜ Ready (now file) c (now index) count ⌝ }
+    requires { ⌜ Ready (now file) c (now index) count (now functions) ⌝ }
     requires { ⌜ ScopeReady (now file) scope ⌝ }
     requires { ⌜ 2 ≤ length (now scratch) ⌝ }
+    requires { ⌜ Sorted (now file) slot ⌝ }
+    requires { ⌜ Declared (now file) (scope .outer) (scope .body) (scope .stitches) (now declared) ⌝ }
+    requires { ⌜ Gathered (now file) (scope .from) (scope .to) (slot .number) (now gathers) ⌝ }
     ensures { λ r. ⌜ r ≡ judgedBy (knownIn c (now (file .entry))) (hereAt (now (file .entry)) scope) (rulesOf pass) (take (slot .number) (whats (bodyIn (now (file .entry)) (scope .from) (scope .to)))) (whatAt (now (file .entry)) slot) ⌝ }
 {
     match pass {
-        Pass::Temps => validate_temp_name(file, c, scope, slot, scratch),
-        Pass::Targets => validate_node_divert(file, c, index, count, slot),
-        Pass::Calls => validate_node_function_calls(file, c, slot),
+        Pass::Temps => validate_temp_name(file, c, functions, scope, slot, scratch),
+        Pass::Targets => validate_node_divert(file, c, index, count, functions, hints, slot),
+        Pass::Calls => validate_node_function_calls(file, c, functions, slot),
         Pass::Choices => check_no_direct_choice_in_branch(file, slot),
         Pass::VariableDiverts => validate_node_variable_divert_target(file, scope, slot),
-        Pass::Variables => validate_node_vars(file, scope, slot, scratch),
-        Pass::Gathers => check_gather_label(file, scope.from, scope.to, slot, scratch),
+        Pass::Variables => validate_node_vars_in(file, scope, slot, declared, scratch),
+        Pass::Gathers => check_gather_label_in(file, scope.from, scope.to, slot, gathers, scratch),
         Pass::Purity => check_function_body_purity(file, slot),
     }
 }
@@ -98,15 +114,19 @@ fn validate_nodes(
     c: Sections,
     index: &[u32],
     count: usize,
+    functions: &[u32],
+    hints: &[u32],
     scope: ScopeView,
     items: usize,
+    declared: &[u8],
     batch: &mut [u32],
     scratch: &mut [u32],
 ) -> Found
-    requires { ⌜ Ready (now file) c (now index) count ⌝ }
+    requires { ⌜ Ready (now file) c (now index) count (now functions) ⌝ }
     requires { ⌜ ScopeReady (now file) scope ⌝ }
     requires { ⌜ Held (now file) scope items (now batch) ⌝ }
     requires { ⌜ 2 ≤ length (now scratch) ⌝ }
+    requires { ⌜ Declared (now file) (scope .outer) (scope .body) (scope .stitches) (now declared) ⌝ }
     ensures { λ r. ⌜ Walked (now (file .entry)) c scope (rulesOf pass) items r (now (batch .exit)) ⌝ }
 {
     let from = scope.from;
@@ -122,8 +142,22 @@ fn validate_nodes(
             number: i,
             place,
             tag,
+            sort: sort_at(file, place, tag),
         };
-        let judged = judge(pass, file, c, index, count, scope, slot, scratch);
+        let judged = judge(
+            pass,
+            file,
+            c,
+            index,
+            count,
+            functions,
+            hints,
+            scope,
+            slot,
+            declared,
+            &file[..0],
+            scratch,
+        );
         if let Judged::Broken(rule) = judged {
             let own = named_at(file, place, tag);
             return Found::Breach(breach_at(rule, place, scope.flow, own));
@@ -134,24 +168,148 @@ fn validate_nodes(
     Found::Clear
 }
 
-// The first breach of so many passes from the first on, along the same body.
-pub fn validate_passes(
+// The item breaks no rule of so many passes from the first on.
+fn is_item_clear(
     first: u8,
     many: u8,
     file: &[u8],
     c: Sections,
     index: &[u32],
     count: usize,
+    functions: &[u32],
+    hints: &[u32],
+    scope: ScopeView,
+    slot: Slot,
+    declared: &[u8],
+    gathers: &[u8],
+    scratch: &mut [u32],
+) -> bool
+    requires { ⌜ first + many ≤ 12 ⌝ }
+    requires { ⌜ Ready (now file) c (now index) count (now functions) ⌝ }
+    requires { ⌜ ScopeReady (now file) scope ⌝ }
+    requires { ⌜ 2 ≤ length (now scratch) ⌝ }
+    requires { ⌜ Sorted (now file) slot ⌝ }
+    requires { ⌜ Declared (now file) (scope .outer) (scope .body) (scope .stitches) (now declared) ⌝ }
+    requires { ⌜ Gathered (now file) (scope .from) (scope .to) (slot .number) (now gathers) ⌝ }
+    ensures { λ r. ⌜ r ≡ clearAt (knownIn c (now (file .entry))) (hereAt (now (file .entry)) scope) (passesFrom first many) (take (slot .number) (whats (bodyIn (now (file .entry)) (scope .from) (scope .to)))) (whatAt (now (file .entry)) slot) ⌝ }
+{
+    if slot.sort == PLAIN {
+        return true;
+    }
+    let mut pass = first;
+    let mut left = many;
+    while 0 < left {
+        let judged = judge(
+            pass_at(pass),
+            file,
+            c,
+            index,
+            count,
+            functions,
+            hints,
+            scope,
+            slot,
+            declared,
+            gathers,
+            scratch,
+        );
+        if let Judged::Broken(_) = judged {
+            return false;
+        }
+        pass += 1;
+        left -= 1;
+    }
+    true
+}
+
+// No item of the body breaks a rule of so many passes from the first on.
+fn is_body_clear(
+    first: u8,
+    many: u8,
+    file: &[u8],
+    c: Sections,
+    index: &[u32],
+    count: usize,
+    functions: &[u32],
+    hints: &[u32],
     scope: ScopeView,
     items: usize,
+    declared: &[u8],
+    gathers: &mut [u8],
     batch: &mut [u32],
     scratch: &mut [u32],
-) -> Found
-    requires { ⌜ first + many ≤ 8 ⌝ }
-    requires { ⌜ Ready (now file) c (now index) count ⌝ }
+) -> bool
+    requires { ⌜ first + many ≤ 12 ⌝ }
+    requires { ⌜ Ready (now file) c (now index) count (now functions) ⌝ }
     requires { ⌜ ScopeReady (now file) scope ⌝ }
     requires { ⌜ Held (now file) scope items (now batch) ⌝ }
     requires { ⌜ 2 ≤ length (now scratch) ⌝ }
+    requires { ⌜ Declared (now file) (scope .outer) (scope .body) (scope .stitches) (now declared) ⌝ }
+    ensures { λ r. ⌜ Cleared (now (file .entry)) c scope (passesFrom first many) items r (now (batch .exit)) ⌝ }
+{
+    clear_filter(gathers);
+    let from = scope.from;
+    let to = scope.to;
+    let mut skip = 0;
+    let mut i = 0;
+    while i < items {
+        skip = fetch(file, from, to, i, skip, batch);
+        let at = 2 * (i - skip);
+        let place = batch[at] as usize;
+        let tag = batch[at + 1];
+        let slot = Slot {
+            number: i,
+            place,
+            tag,
+            sort: sort_at(file, place, tag),
+        };
+        if !is_item_clear(
+            first,
+            many,
+            file,
+            c,
+            index,
+            count,
+            functions,
+            hints,
+            scope,
+            slot,
+            declared,
+            gathers,
+            scratch,
+        ) {
+            rewind(file, from, to, skip, batch);
+            return false;
+        }
+        pass_item(file, place, tag, slot.sort, gathers);
+        i += 1;
+    }
+    rewind(file, from, to, skip, batch);
+    true
+}
+
+// The first breach of so many passes from the first on, one pass after the other along the same body.
+fn find_in_passes(
+    first: u8,
+    many: u8,
+    file: &[u8],
+    c: Sections,
+    index: &[u32],
+    count: usize,
+    functions: &[u32],
+    hints: &[u32],
+    scope: ScopeView,
+    items: usize,
+    declared: &[u8],
+    batch: &mut [u32],
+    scratch: &mut [u32],
+) -> Found
+    requires { ⌜ first + many ≤ 12 ⌝ }
+    requires { ⌜ Ready (now file) c (now index) count (now functions) ⌝ }
+    requires { ⌜ ScopeReady (now file) scope ⌝ }
+    requires { ⌜ Held (now file) scope items (now batch) ⌝ }
+    requires { ⌜ 2 ≤ length (now scratch) ⌝ }
+    requires { ⌜ Declared (now file) (scope .outer) (scope .body) (scope .stitches) (now declared) ⌝ }
     ensures { λ r. ⌜ Passed (now (file .entry)) c scope (passesFrom first many) items r (now (batch .exit)) ⌝ }
 {
     let mut pass = first;
@@ -163,8 +321,11 @@ pub fn validate_passes(
             c,
             index,
             count,
+            functions,
+            hints,
             scope,
             items,
+            declared,
             batch,
             scratch,
         );
@@ -175,4 +336,77 @@ pub fn validate_passes(
         left -= 1;
     }
     Found::Clear
+}
+
+// How much of a filter for the body of the scope is used, of so many bytes: no more than the body has.
+fn filter_room(scope: ScopeView, bytes: usize) -> usize
+    requires { ⌜ scope .from ≤ scope .to ⌝ }
+    ensures { λ r. ⌜ r ≤ bytes ⌝ }
+{
+    let length = scope.to - scope.from;
+    if length < bytes {
+        return length;
+    }
+    bytes
+}
+
+// The first breach of so many passes from the first on, along the same body; none where one look at each item finds none.
+pub fn validate_passes(
+    first: u8,
+    many: u8,
+    file: &[u8],
+    c: Sections,
+    index: &[u32],
+    count: usize,
+    functions: &[u32],
+    hints: &[u32],
+    scope: ScopeView,
+    items: usize,
+    declared: &[u8],
+    gathers: &mut [u8],
+    batch: &mut [u32],
+    scratch: &mut [u32],
+) -> Found
+    requires { ⌜ first + many ≤ 12 ⌝ }
+    requires { ⌜ Ready (now file) c (now index) count (now functions) ⌝ }
+    requires { ⌜ ScopeReady (now file) scope ⌝ }
+    requires { ⌜ Held (now file) scope items (now batch) ⌝ }
+    requires { ⌜ 2 ≤ length (now scratch) ⌝ }
+    requires { ⌜ Declared (now file) (scope .outer) (scope .body) (scope .stitches) (now declared) ⌝ }
+    ensures { λ r. ⌜ Passed (now (file .entry)) c scope (passesFrom first many) items r (now (batch .exit)) ⌝ }
+{
+    let room = filter_room(scope, gathers.len());
+    if is_body_clear(
+        first,
+        many,
+        file,
+        c,
+        index,
+        count,
+        functions,
+        hints,
+        scope,
+        items,
+        declared,
+        &mut gathers[..room],
+        batch,
+        scratch,
+    ) {
+        return Found::Clear;
+    }
+    find_in_passes(
+        first,
+        many,
+        file,
+        c,
+        index,
+        count,
+        functions,
+        hints,
+        scope,
+        items,
+        declared,
+        batch,
+        scratch,
+    )
 }

@@ -8,7 +8,9 @@ ghost use Rattle.story.specs.Story.{Stitch};
 ghost use Rattle.story.specs.File.{InOrder};
 ghost use Rattle.story.specs.Flows.{countedIn, piecesIn, stitchIn, part};
 ghost use Rattle.rules.specs.Rules.{Here};
+ghost use Rattle.tables.specs.Functions.{Functions};
 ghost use Rattle.checks.specs.Context.{Ready, StitchesReady};
+ghost use Rattle.filters.specs.Names.{Declared};
 ghost use Rattle.context.specs.Scopes.{FlowReady, Held, knotView, Purified, paramsFound, stitchNameFound};
 use crate::Found;
 use crate::breaches::breach_at;
@@ -43,17 +45,22 @@ pub fn validate_function_purity(
     c: Sections,
     index: &[u32],
     count: usize,
+    functions: &[u32],
+    hints: &[u32],
     v: FlowView,
     scope: ScopeView,
     items: usize,
+    declared: &[u8],
+    gathers: &mut [u8],
     batch: &mut [u32],
     scratch: &mut [u32],
 ) -> Found
-    requires { ⌜ Ready (now file) c (now index) count ⌝ }
+    requires { ⌜ Ready (now file) c (now index) count (now functions) ⌝ }
     requires { ⌜ FlowReady (now file) v ⌝ }
     requires { ⌜ scope ≡ knotView v ⌝ }
     requires { ⌜ Held (now file) scope items (now batch) ⌝ }
     requires { ⌜ 2 ≤ length (now scratch) ⌝ }
+    requires { ⌜ Declared (now file) (scope .outer) (scope .body) (scope .stitches) (now declared) ⌝ }
     ensures { λ r. ⌜ Purified (now (file .entry)) c v items r (now (batch .exit)) ⌝ }
 {
     if v.function {
@@ -67,8 +74,12 @@ pub fn validate_function_purity(
             c,
             index,
             count,
+            functions,
+            hints,
             scope,
             items,
+            declared,
+            gathers,
             batch,
             scratch,
         );
@@ -77,8 +88,15 @@ pub fn validate_function_purity(
 }
 
 // Step 6: rules 4 and 5 at the parameters of the flow whose name stands at the first place.
-pub fn validate_flow_parameter_names(file: &[u8], c: Sections, flow: usize, params: usize) -> Found
+pub fn validate_flow_parameter_names(
+    file: &[u8],
+    c: Sections,
+    functions: &[u32],
+    flow: usize,
+    params: usize,
+) -> Found
     requires { ⌜ InOrder c (now file) ⌝ }
+    requires { ⌜ Functions (now file) c (now functions) ⌝ }
     requires { ⌜ params < length (now file) ⌝ }
     ensures { λ r. ⌜ ((h : Here) → r ≡ paramsFound (now (file .entry)) c h flow (countedIn params (drop params (now (file .entry))))) ⌝ }
 {
@@ -88,7 +106,7 @@ pub fn validate_flow_parameter_names(file: &[u8], c: Sections, flow: usize, para
         if file.len() <= at {
             return Found::Clear;
         }
-        let judged = check_parameter_name(file, c, name_at(file, at));
+        let judged = check_parameter_name(file, c, functions, name_at(file, at));
         if let Judged::Broken(rule) = judged {
             return Found::Breach(breach_at(rule, at, flow, at));
         }

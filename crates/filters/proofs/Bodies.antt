@@ -17,7 +17,7 @@ use Rattle.checks.specs.Context.{countedAt, hereAt}
 use Rattle.checks.specs.declared.ScopeView.{ScopeView}
 use Rattle.filters.specs.Words.{addedAll, lacks, sortNamed, Covers}
 use Rattle.filters.specs.Names.{Declared, Gathered, passed}
-use Rattle.filters.proofs.Covering.{lacked, covers-same, covers-all, covers-or, holds-all}
+use Rattle.filters.proofs.Covering.{lacked, covers-none, covers-same, covers-all, covers-or, holds-all}
 
 -- 1. The names of items of a sort
 
@@ -41,6 +41,10 @@ module _ {file : List ℕ} {params from to : ℕ} where
       = covers-same (holds-all _ named) (tempIn (bodyIn file from to)) (sort-tests (code temp) (whats (bodyIn file from to))) in
       record { covers = rw f (covers-or (covers-all (each (sortNamed (code temp)) (whats (bodyIn file from to))) params-covered) temps-covered) }
 
+  -- a filter without slots lacks nothing
+  pub declared-none : (filter : List ℕ) → length filter ≡ 0 → Declared file params from to filter
+  declared-none filter h = record { covers = covers-none filter h _ }
+
   -- it stays so while items are passed
   pub declared-passed : {filter after : List ℕ} → Declared file params from to filter → (w : What) → after ≡ passed filter w → Declared file params from to after
   unfolding passed
@@ -57,6 +61,10 @@ not-forbidden v d n e t = rw (lacked (d .covers) e t)
 -- before the first there is none
 pub gathered-start : (file : List ℕ) (from to : ℕ) (filter : List ℕ) → Gathered file from to 0 filter
 gathered-start file from to filter = record { covers = record { kept = λ w h. absurd (true≢false (sym h)) } }
+
+-- a filter without slots lacks nothing
+pub gathered-none : {file : List ℕ} {from to i : ℕ} (filter : List ℕ) → length filter ≡ 0 → Gathered file from to i filter
+gathered-none filter h = record { covers = covers-none filter h _ }
 
 -- what stands before the item after this one
 among-next : (p : What → Bool) (body : List Item) (i : ℕ) {x : Item} {more : List Item} → drop i body ≡ x ∷ more

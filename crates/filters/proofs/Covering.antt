@@ -7,7 +7,9 @@ use lib.Dec.{eqb}
 use lib.ListN.{length, getD, set, length-set}
 use Rattle.names.specs.Words.{Bytes, same}
 use Rattle.names.proofs.Words.{same-eq}
-use Rattle.filters.specs.Words.{slotOf, added, addedAll, lacks, Covers, Holds}
+use Rattle.filters.proofs.Slots.{lacks-none}
+use Rattle.tables.specs.Tables.{slotOf}
+use Rattle.filters.specs.Words.{added, addedAll, lacks, Covers, Holds}
 
 -- 1. One word
 
@@ -32,9 +34,13 @@ module _ (filter : List ℕ) (w : Bytes) where
 
   added-kept : (v : Bytes) → lacks filter v ≡ false → lacks (added filter w) v ≡ false
   unfolding lacks added
-  added-kept v h = rw length-set (kept-nonzero filter (slotOf w (length filter)) (slotOf v (length filter)) h)
+  added-kept v h = rw length-set (kept-nonzero filter (slotOf filter w) (slotOf filter v) h)
 
 -- 2. Words that pass a test
+
+-- a filter without slots lacks none
+pub covers-none : (filter : List ℕ) → length filter ≡ 0 → (test : Bytes → Bool) → Covers filter test
+covers-none filter e test = record { kept = λ w h. sym (lacks-none filter w e) }
 
 module _ {filter : List ℕ} {test : Bytes → Bool} (covers : Covers filter test) where
   -- a word that the filter lacks does not pass

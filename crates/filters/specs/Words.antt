@@ -1,25 +1,17 @@
 -- A filter: bytes, one for each slot. A word that was added has a 1 at its slot. Assumes nothing.
-use Prim.Native.Nat.{ℕ, _+_, _*_, _%_}
+use Prim.Native.Nat.{ℕ}
 use mathlib.Core.Path.{_≡_}
 use mathlib.Core.Bool.{Bool, true, false}
 use mathlib.Core.List.{List, [], _∷_}
 use lib.Dec.{eqb}
-use lib.ListN.{length, getD, set}
+use lib.ListN.{getD, set}
 use Rattle.names.specs.Words.{Bytes, only, one-of}
 use Rattle.story.specs.Story.{What, code}
-
--- the hash of a word, where h is that of the bytes before it
-unfoldable pub hashFrom : ℕ → Bytes → ℕ
-hashFrom h [] = h
-hashFrom h (b ∷ w) = hashFrom ((h * 33 + b) % 1048576) w
-
--- the slot of a word in a filter of so many slots
-unfoldable pub slotOf : Bytes → ℕ → ℕ
-slotOf w size = hashFrom 5381 w % size
+use Rattle.tables.specs.Tables.{slotOf}
 
 -- the filter with a word added; one without slots stays
 unfoldable pub added : List ℕ → Bytes → List ℕ
-added filter w = set filter (slotOf w (length filter)) 1
+added filter w = set filter (slotOf filter w) 1
 
 -- the filter with each word of a list added
 unfoldable pub addedAll : List ℕ → List Bytes → List ℕ
@@ -28,7 +20,7 @@ addedAll filter (w ∷ ws) = addedAll (added filter w) ws
 
 -- a 0 stands at the word's slot; a filter without slots says it of none
 unfoldable pub lacks : List ℕ → Bytes → Bool
-lacks filter w = eqb (getD filter (slotOf w (length filter)) 1) 0
+lacks filter w = eqb (getD filter (slotOf filter w) 1) 0
 
 -- the name of an item of the sort, and nothing of any other
 unfoldable pub sortNamed : ℕ → What → List Bytes

@@ -1,11 +1,15 @@
 // A filter over what a knot declares: its parameters, and the temps of its own list.
 ghost use mathlib.Core.Path.{_≡_};
+ghost use mathlib.Core.List.{List};
 ghost use Prim.Native.Nat.{_≤_};
 ghost use lib.ListN.{length};
 ghost use Rattle.names.specs.Words.{each};
-ghost use Rattle.story.specs.Story.{temp, code, whats};
+ghost use Rattle.story.specs.Story.{What, temp, code, whats};
+ghost use Rattle.rules.specs.Rules.{Known};
+ghost use Rattle.rules.specs.Steps.{bracket, Step};
 ghost use Rattle.bodies.specs.Bodies.{bodyIn, Range};
-ghost use Rattle.checks.specs.Context.{ScopeReady, hereAt};
+ghost use Rattle.checks.specs.Judged.{judgedBy};
+ghost use Rattle.checks.specs.Context.{ScopeReady, Sorted, hereAt, whatAt};
 ghost use Rattle.filters.specs.Words.{addedAll, sortNamed};
 ghost use Rattle.filters.specs.Names.{Declared};
 use crate::words::add_counted;
@@ -13,11 +17,17 @@ use crate::words::add_item;
 use crate::words::clear_filter;
 use crate::words::lacks_word;
 use bodies::items::TEMP;
+use bodies::items::VARIABLE;
+use bodies::items::item_name;
 use bodies::items::sort_at;
 use bodies::windows::count_items;
 use bodies::windows::fetch;
+use checks::Judged;
 use checks::ScopeView;
+use checks::Slot;
 use checks::labels::is_forbidden;
+use checks::structure::is_sort;
+use rules::Rule;
 
 // Adds the temps of a body.
 fn add_temps(filter: &mut [u8], file: &[u8], from: usize, to: usize, scratch: &mut [u32])
@@ -38,7 +48,7 @@ fn add_temps(filter: &mut [u8], file: &[u8], from: usize, to: usize, scratch: &m
     }
 }
 
-// Empties the filter, and adds the parameters and the temps of the body. What it had before would only cost searches.
+// Empties the filter, and adds the parameters and the temps of the body. What it had before would only cost searches. One without slots stays.
 pub fn put_declared(
     file: &[u8],
     params: usize,
@@ -52,6 +62,9 @@ pub fn put_declared(
     requires { ⌜ 2 ≤ length (now scratch) ⌝ }
     ensures { λ r. ⌜ Declared (now (file .entry)) params from to (now (filter .exit)) ⌝ }
 {
+    if filter.len() == 0 {
+        return;
+    }
     clear_filter(filter);
     add_counted(filter, &file[params..]);
     add_temps(filter, file, from, to, scratch);
@@ -74,4 +87,27 @@ pub fn is_forbidden_in(
         return false;
     }
     is_forbidden(file, scope, name, scratch)
+}
+
+// The name of an item that is a variable: rule 15. The filter has what the knot declares.
+pub fn validate_node_vars_in(
+    file: &[u8],
+    scope: ScopeView,
+    slot: Slot,
+    filter: &[u8],
+    scratch: &mut [u32],
+) -> Judged
+    requires { ⌜ ScopeReady (now file) scope ⌝ }
+    requires { ⌜ 2 ≤ length (now scratch) ⌝ }
+    requires { ⌜ Sorted (now file) slot ⌝ }
+    requires { ⌜ Declared (now file) (scope .outer) (scope .body) (scope .stitches) (now filter) ⌝ }
+    ensures { λ r. ⌜ ((k : Known) (before : List What) → r ≡ judgedBy k (hereAt (now (file .entry)) scope) (bracket Step.s17) before (whatAt (now (file .entry)) slot)) ⌝ }
+{
+    if is_sort(file, slot, VARIABLE) {
+        let name = item_name(file, slot.place, slot.tag);
+        if is_forbidden_in(file, scope, filter, name, scratch) {
+            return Judged::Broken(Rule::VariableForbidden);
+        }
+    }
+    Judged::Fine
 }

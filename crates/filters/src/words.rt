@@ -1,27 +1,14 @@
 // A filter over words in a lent buffer: a word that was added has a 1 at its slot, and a 0 there says that it was not.
 ghost use mathlib.Core.Path.{_≡_};
-ghost use Prim.Native.Nat.{_<_};
 ghost use lib.ListN.{length, replicate};
 ghost use Rattle.story.specs.Flows.{countedIn};
 ghost use Rattle.story.specs.Story.{code, words};
 ghost use Rattle.bodies.specs.Records.{itemFrom};
-ghost use Rattle.filters.specs.Words.{slotOf, added, addedAll, lacks, sortNamed};
+ghost use Rattle.filters.specs.Words.{added, addedAll, lacks, sortNamed};
 use bodies::items::item_name;
 use names::name_at;
-
-// The slot of a word in a filter of so many slots.
-pub fn slot_of(word: &[u8], size: usize) -> usize
-    requires { ⌜ 0 < size ⌝ }
-    ensures { λ r. ⌜ r ≡ slotOf (now (word .entry)) size ⌝ }
-{
-    let mut hash = 5381;
-    let mut i = 0;
-    while i < word.len() {
-        hash = (hash * 33 + word[i] as usize) % 1048576;
-        i += 1;
-    }
-    hash % size
-}
+use tables::hashes::hash_of;
+use tables::hashes::slot_of;
 
 // Adds a word. A filter without slots stays.
 pub fn add_word(filter: &mut [u8], word: &[u8])
@@ -30,7 +17,7 @@ pub fn add_word(filter: &mut [u8], word: &[u8])
     if filter.len() == 0 {
         return;
     }
-    let slot = slot_of(word, filter.len());
+    let slot = slot_of(hash_of(word), filter.len());
     filter[slot] = 1;
 }
 
@@ -41,7 +28,7 @@ pub fn lacks_word(filter: &[u8], word: &[u8]) -> bool
     if filter.len() == 0 {
         return false;
     }
-    let slot = slot_of(word, filter.len());
+    let slot = slot_of(hash_of(word), filter.len());
     filter[slot] == 0
 }
 

@@ -1,4 +1,4 @@
-// Tables of entry numbers by the hash of a spelling. What a table says is a guess: it is compared with the entry before it is believed.
+// A table of entry numbers by the hash of a spelling. What it says is a guess: it is compared with the entry before it is believed.
 ghost use mathlib.Core.Path.{_≡_};
 ghost use mathlib.Core.Bool.{true};
 ghost use Prim.Native.Nat.{_/_, _≤_, _<_};
@@ -19,7 +19,7 @@ use symbols::targets::find_target;
 use symbols::targets::fit_entry;
 
 // How many slots are tried, from that of the hash on.
-const TRIES: usize = 4;
+const TRIES: usize = 8;
 
 // The slot after this one, where the first follows the last.
 fn next_slot(slot: usize, slots: usize) -> usize
@@ -95,18 +95,19 @@ fn entry_at(index: &[u32], k: usize) -> Places
     }
 }
 
-// Writes the numbers of the entries, plus 1, by their spellings and by their own names. Nothing is promised of what the tables hold then.
-pub fn put_hints(file: &[u8], index: &[u32], count: usize, whole: &mut [u32], last: &mut [u32]) {
-    clear(whole);
-    clear(last);
+// Writes the numbers of the entries, plus 1, by their spellings and, where a flow's name stands before it, by their own names. Nothing is
+// promised of what the table holds then.
+pub fn put_hints(file: &[u8], index: &[u32], count: usize, hints: &mut [u32]) {
+    clear(hints);
     let end = entry_count(index, count);
     let mut k = 0;
     while k < end {
         let p = entry_at(index, k);
-        let own = name_at(file, p.own as usize);
         k += 1;
-        put_hint(whole, hash_entry(file, p), k as u32);
-        put_hint(last, hash_of(own), k as u32);
+        put_hint(hints, hash_entry(file, p), k as u32);
+        if p.flow != ABSENT {
+            put_hint(hints, hash_of(name_at(file, p.own as usize)), k as u32);
+        }
     }
 }
 
@@ -164,22 +165,17 @@ fn find_in_slots(
     false
 }
 
-// Some of so many entries is spelled as the target, or ends in "." and the target: by the tables, or by going through the entries.
+// Some of so many entries is spelled as the target, or ends in "." and the target: by the table, or by going through the entries.
 pub fn find_target_in(
     file: &[u8],
     index: &[u32],
     count: usize,
-    whole: &[u32],
-    last: &[u32],
+    hints: &[u32],
     target: &[u8],
 ) -> bool
     ensures { λ r. ⌜ r ≡ any (answers (now (target .entry))) (spellingsIn (now (file .entry)) count (now (index .entry))) ⌝ }
 {
-    let hash = hash_of(target);
-    if find_in_slots(file, index, count, whole, hash, target) {
-        return true;
-    }
-    if find_in_slots(file, index, count, last, hash, target) {
+    if find_in_slots(file, index, count, hints, hash_of(target), target) {
         return true;
     }
     find_target(file, index, count, target)

@@ -23,6 +23,7 @@ use Rattle.rules.specs.Steps.{Breach, verdict}
 use Rattle.context.specs.declared.BreachAt.{BreachAt}
 use Rattle.context.specs.declared.Found.{Found}
 use Rattle.context.specs.declared.Found.the-variants as found
+use Rattle.tables.specs.Functions.{Functions}
 use Rattle.checks.specs.Context.{Ready}
 use Rattle.context.specs.Found.{foundOf, breachAt}
 use Rattle.validator.specs.declared.Answer.{Answer}
@@ -52,10 +53,10 @@ module _ (file : List ℕ) {c : Sections} (good : readOf file ≡ opened.At c) w
       let w = e ∙ index-written c file (readable file c refl good) before h in
       record { entries-are = ap (λ (s : St). s .count) w; index-is = ap (λ (s : St). s .index) w }
 
-  pub ready : {before after : List ℕ} {n : ℕ} → Written file c before after n → Ready file c after n
-  ready {before} w =
+  pub ready : {before after : List ℕ} {n : ℕ} → Written file c before after n → {functions : List ℕ} → Functions file c functions → Ready file c after n functions
+  ready {before} w known =
       let r = readable file c refl good in
-      record { sections = r .order; spelled = rw (w .entries-are, w .index-is) (index-read c file r before) }
+      record { sections = r .order; spelled = rw (w .entries-are, w .index-is) (index-read c file r before); functions-known = known }
 
 -- 2. The story
 

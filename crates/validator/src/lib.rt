@@ -18,6 +18,8 @@ use story::Opened;
 use story::Sections;
 use story::read;
 use symbols::entries::write_index;
+use tables::functions::put_functions;
+use tables::hints::put_hints;
 
 // A breach: the rule, the place, the places of the two names for the text, how many entries the index has, and how long the text is.
 pub struct Breach {
@@ -62,12 +64,16 @@ fn write_breach(
     })
 }
 
-// Writes the index, runs the twenty steps, and answers; where there is a breach, writes its text. Works in the last two buffers.
+// Writes the index, runs the twenty steps, and answers; where there is a breach, writes its text. Works in the last six buffers.
 fn check_story(
     file: &[u8],
     c: Sections,
     index: &mut [u32],
     message: &mut [u8],
+    functions: &mut [u32],
+    hints: &mut [u32],
+    declared: &mut [u8],
+    gathers: &mut [u8],
     batch: &mut [u32],
     scratch: &mut [u32],
 ) -> Answer
@@ -77,7 +83,20 @@ fn check_story(
     ensures { λ r. ⌜ Reported (storyReport (now (file .entry)) (storyIn c (now (file .entry)))) (now (index .entry)) (now (message .entry)) r (now (index .exit)) (now (message .exit)) ⌝ }
 {
     let entries = write_index(file, c, index, batch);
-    let found = validate_story(file, c, index, entries, batch, scratch);
+    put_functions(file, c, functions);
+    put_hints(file, index, entries, hints);
+    let found = validate_story(
+        file,
+        c,
+        index,
+        entries,
+        functions,
+        hints,
+        declared,
+        gathers,
+        batch,
+        scratch,
+    );
     match found {
         Found::Clear => Answer::Accepted(entries),
         Found::Breach(b) => {
@@ -85,6 +104,84 @@ fn check_story(
             write_breach(file, rule, b.place, b.first, b.second, entries, message)
         }
     }
+}
+
+// The story of a short file, with buffers that are made in no time.
+fn check_short(file: &[u8], c: Sections, index: &mut [u32], message: &mut [u8]) -> Answer
+    requires { ⌜ readOf (now file) ≡ Opened.At c ⌝ }
+    requires { ⌜ (3 * c .end ≤ length (now index)) × (640 ≤ length (now message)) ⌝ }
+    ensures { λ r. ⌜ Reported (storyReport (now (file .entry)) (storyIn c (now (file .entry)))) (now (index .entry)) (now (message .entry)) r (now (index .exit)) (now (message .exit)) ⌝ }
+{
+    let mut functions = [0u32; 256];
+    let mut hints = [0u32; 1024];
+    let mut declared = [0u8; 256];
+    let mut gathers = [0u8; 1024];
+    let mut batch = [0u32; 1024];
+    let mut scratch = [0u32; 512];
+    check_story(
+        file,
+        c,
+        index,
+        message,
+        &mut functions,
+        &mut hints,
+        &mut declared,
+        &mut gathers,
+        &mut batch,
+        &mut scratch,
+    )
+}
+
+// The story of a file of middling length.
+fn check_middling(file: &[u8], c: Sections, index: &mut [u32], message: &mut [u8]) -> Answer
+    requires { ⌜ readOf (now file) ≡ Opened.At c ⌝ }
+    requires { ⌜ (3 * c .end ≤ length (now index)) × (640 ≤ length (now message)) ⌝ }
+    ensures { λ r. ⌜ Reported (storyReport (now (file .entry)) (storyIn c (now (file .entry)))) (now (index .entry)) (now (message .entry)) r (now (index .exit)) (now (message .exit)) ⌝ }
+{
+    let mut functions = [0u32; 8192];
+    let mut hints = [0u32; 8192];
+    let mut declared = [0u8; 2048];
+    let mut gathers = [0u8; 8192];
+    let mut batch = [0u32; 8192];
+    let mut scratch = [0u32; 2048];
+    check_story(
+        file,
+        c,
+        index,
+        message,
+        &mut functions,
+        &mut hints,
+        &mut declared,
+        &mut gathers,
+        &mut batch,
+        &mut scratch,
+    )
+}
+
+// The story of a long file, with buffers that have room for its names.
+fn check_long(file: &[u8], c: Sections, index: &mut [u32], message: &mut [u8]) -> Answer
+    requires { ⌜ readOf (now file) ≡ Opened.At c ⌝ }
+    requires { ⌜ (3 * c .end ≤ length (now index)) × (640 ≤ length (now message)) ⌝ }
+    ensures { λ r. ⌜ Reported (storyReport (now (file .entry)) (storyIn c (now (file .entry)))) (now (index .entry)) (now (message .entry)) r (now (index .exit)) (now (message .exit)) ⌝ }
+{
+    let mut functions = [0u32; 32768];
+    let mut hints = [0u32; 131072];
+    let mut declared = [0u8; 16384];
+    let mut gathers = [0u8; 131072];
+    let mut batch = [0u32; 32768];
+    let mut scratch = [0u32; 16384];
+    check_story(
+        file,
+        c,
+        index,
+        message,
+        &mut functions,
+        &mut hints,
+        &mut declared,
+        &mut gathers,
+        &mut batch,
+        &mut scratch,
+    )
 }
 
 // The check of a readable file: refusals 7 and 8, and then its story.
@@ -98,9 +195,13 @@ fn check_readable(file: &[u8], c: Sections, index: &mut [u32], message: &mut [u8
     if message.len() < 640 {
         return Answer::ShortMessage;
     }
-    let mut batch = [0u32; 4096];
-    let mut scratch = [0u32; 1024];
-    check_story(file, c, index, message, &mut batch, &mut scratch)
+    if file.len() <= 4096 {
+        return check_short(file, c, index, message);
+    }
+    if file.len() <= 65536 {
+        return check_middling(file, c, index, message);
+    }
+    check_long(file, c, index, message)
 }
 
 // THE CHECK of a file. The index wants three numbers for each byte before the trailer, the message buffer 640 bytes.

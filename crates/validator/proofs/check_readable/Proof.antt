@@ -1,4 +1,4 @@
--- `validator::check_readable` meets its contract: refusals 7 and 8 by the lengths of the buffers. Assumes nothing.
+-- `check_readable`: refusals 7 and 8 by the lengths of the buffers; then the story, with buffers by the file's length. Assumes nothing.
 use native.Mathlib.Omega.{arith}
 use borrow.Author.Needs.{needs}
 use Rattle.validator.proofs.Reports.{trailer-at, short-index, short-message, long-enough}
@@ -14,11 +14,23 @@ returns c = short-index (c .before .before .before .before .before .args .file .
 returns-2 : tie.Need-returns-2
 returns-2 c = short-message (c .before .before .before .before .before .before .args .file .now) (c .before .before .before .before .before .before .pre) _ _ (c .before .if1 .left) (c .if2 .taken)
 
-check-story-requires : tie.Need-check-story-requires
-check-story-requires c κs = (c .before .before .before .before .before .before .before .before .before .before .pre, ((c .before .before .before .before .before .if1 .left, c .before .before .before .before .if2 .left), search needs))
+check-short-requires : tie.Need-check-short-requires
+check-short-requires c κs = (c .before .before .before .before .before .before .before .before .before .pre, (c .before .before .before .before .if1 .left, c .before .before .before .if2 .left))
 
 returns-3 : tie.Need-returns-3
-returns-3 c = long-enough (c .before .before .before .before .before .before .before .before .before .before .before .before .before .before .before .before .before .args .file .now) (c .before .before .before .before .before .before .before .before .before .before .before .before .before .before .before .before .before .pre) _ _ (c .before .before .before .before .before .before .before .before .before .before .before .before .if1 .left) (c .before .before .before .before .before .before .before .before .before .before .before .if2 .left) (c .before .before .before .before .before .before .check-story .ensures)
+returns-3 c = long-enough (c .before .before .before .before .before .before .before .before .before .before .before .before .before .before .args .file .now) (c .before .before .before .before .before .before .before .before .before .before .before .before .before .before .pre) _ _ (c .before .before .before .before .before .before .before .before .before .if1 .left) (c .before .before .before .before .before .before .before .before .if2 .left) (c .before .before .before .before .check-short .ensures)
+
+check-middling-requires : tie.Need-check-middling-requires
+check-middling-requires c κs = (c .before .before .before .before .before .before .before .before .before .before .pre, (c .before .before .before .before .before .if1 .left, c .before .before .before .before .if2 .left))
+
+returns-4 : tie.Need-returns-4
+returns-4 c = long-enough (c .before .before .before .before .before .before .before .before .before .before .before .before .before .before .before .args .file .now) (c .before .before .before .before .before .before .before .before .before .before .before .before .before .before .before .pre) _ _ (c .before .before .before .before .before .before .before .before .before .before .if1 .left) (c .before .before .before .before .before .before .before .before .before .if2 .left) (c .before .before .before .before .check-middling .ensures)
+
+check-long-requires : tie.Need-check-long-requires
+check-long-requires c κs = (c .before .before .before .before .before .before .before .before .before .before .pre, (c .before .before .before .before .before .if1 .left, c .before .before .before .before .if2 .left))
+
+returns-5 : tie.Need-returns-5
+returns-5 c = long-enough (c .before .before .before .before .before .before .before .before .before .before .before .before .before .before .before .args .file .now) (c .before .before .before .before .before .before .before .before .before .before .before .before .before .before .before .pre) _ _ (c .before .before .before .before .before .before .before .before .before .before .if1 .left) (c .before .before .before .before .before .before .before .before .before .if2 .left) (c .before .before .before .before .check-long .ensures)
 
 pub check-readable-spec : {M : Type 1} → statement M
 check-readable-spec =
@@ -27,9 +39,15 @@ check-readable-spec =
     mul-if1
     returns
     returns-2
+    check-short-requires
     (λ c. search needs)
     (λ c. search needs)
-    check-story-requires
+    returns-3
+    check-middling-requires
     (λ c. search needs)
     (λ c. search needs)
-    returns-3)
+    returns-4
+    check-long-requires
+    (λ c. search needs)
+    (λ c. search needs)
+    returns-5)

@@ -5,10 +5,10 @@ use Rattle.checks.proofs.known.is_target.Statement.{statement}
 use Rattle.checks.proofs.known.is_target.Tie as tie
 
 returns : tie.Need-returns
-returns c = target-reserved _ _ (c .before .before .before .before .before .args .index .now) (c .before .before .before .before .before .args .count) _ (c .before .is-reserved .ensures) (c .if1 .taken)
+returns c = target-reserved _ _ _ (c .before .is-reserved .ensures) (c .if1 .taken)
 
 returns-2 : tie.Need-returns-2
-returns-2 c = target-asked _ _ _ _ _ (c .before .before .is-reserved .ensures) (c .before .if1 .left) (c .before .before .before .before .before .before .pre) (c .find-target .ensures)
+returns-2 c = target-asked _ _ _ (c .before .before .is-reserved .ensures) (c .before .if1 .left) (c .before .before .before .before .before .before .before .before .pre) (c .find-target-in .ensures)
 
 pub is-target-spec : {M : Type 1} → statement M
 is-target-spec =

@@ -7,10 +7,10 @@ use Rattle.checks.proofs.structure.validate_temp_name.Statement.{statem
 use Rattle.checks.proofs.structure.validate_temp_name.Tie as tie
 
 returns : tie.Need-returns
-returns c before = rw (temps-at _ _ before (c .before .before .before .before .before .before .before .before .before .args .file .now) (c .before .before .before .before .before .before .before .before .before .args .slot)) (picked _ (c .before .before .before .before .before .before .is-sort .ensures) (c .before .before .before .before .before .if1 .taken) (rw (c .before .before .before .before .item-name .ensures) at (c .before .before .check-temp-name .ensures)))
+returns c before = rw (temps-at _ _ before (c .before .before .before .before .before .before .before .before .before .before .args .file .now) (c .before .before .before .before .before .before .before .before .before .before .args .slot)) (picked _ (c .before .before .before .before .before .before .is-sort .ensures) (c .before .before .before .before .before .if1 .taken) (rw (c .before .before .before .before .item-name .ensures) at (c .before .before .check-temp-name .ensures)))
 
 returns-2 : tie.Need-returns-2
-returns-2 c before = rw (temps-at _ _ before (c .before .before .before .before .args .file .now) (c .before .before .before .before .args .slot)) (passed _ (c .before .is-sort .ensures) (c .if1 .left) refl)
+returns-2 c before = rw (temps-at _ _ before (c .before .before .before .before .before .args .file .now) (c .before .before .before .before .before .args .slot)) (passed _ (c .before .is-sort .ensures) (c .if1 .left) refl)
 
 pub validate-temp-name-spec : {M : Type 1} → statement M
 validate-temp-name-spec =

@@ -6,13 +6,13 @@ use Rattle.context.proofs.context.validate_body.Statement.{statement}
 use Rattle.context.proofs.context.validate_body.Tie as tie
 
 count-items-requires : tie.Need-count-items-requires
-count-items-requires c κs = c .before .before .before .before .before .pre .1 .1 .0 .body
+count-items-requires c κs = c .before .before .before .before .before .before .before .before .before .pre .1 .1 .0 .body
 
 validate-passes-requires : tie.Need-validate-passes-requires
-validate-passes-requires c κs = (c .before .before .before .before .before .before .before .before .before .before .pre .0, (c .before .before .before .before .before .before .before .before .before .before .pre .1 .0, (c .before .before .before .before .before .before .before .before .before .before .pre .1 .1 .0, (held-first _ (c .before .before .before .before .count-items .ensures) (c .before .before .before .before .before .before .before .before .before .before .pre .1 .1 .1 .0), c .before .before .before .before .before .before .before .before .before .before .pre .1 .1 .1 .1))))
+validate-passes-requires c κs = (c .before .before .before .before .before .before .before .before .before .before .before .before .before .before .before .pre .0, (c .before .before .before .before .before .before .before .before .before .before .before .before .before .before .before .pre .1 .0, (c .before .before .before .before .before .before .before .before .before .before .before .before .before .before .before .pre .1 .1 .0, (held-first _ (c .before .before .before .before .before .count-items .ensures) (c .before .before .before .before .before .before .before .before .before .before .before .before .before .before .before .pre .1 .1 .1 .0 .0), (c .before .before .before .before .before .before .before .before .before .before .before .before .before .before .before .pre .1 .1 .1 .0 .1, c .before .before .before .before .before .before .before .before .before .before .before .before .before .before .before .pre .1 .1 .1 .1)))))
 
 returns : tie.Need-returns
-returns c = c .before .before .before .before .validate-passes .ensures .answer
+returns c = c .before .before .before .before .before .before .validate-passes .ensures .answer
 
 pub validate-body-spec : {M : Type 1} → statement M
 validate-body-spec =
@@ -20,6 +20,7 @@ validate-body-spec =
     (tie.spec
     count-items-requires
     validate-passes-requires
+    (λ c. search needs)
     (λ c. search needs)
     (λ c. search needs)
     returns)

@@ -1,33 +1,22 @@
--- `validate_stitch`: step 12, then 13 to 18 in two runs of passes. Assumes nothing.
+-- `validate_stitch`: step 12, then 13 to 18 in one run of passes. Assumes nothing.
 use native.Mathlib.Omega.{arith}
-use Rattle.context.specs.Scopes.{stitchView}
-use Rattle.context.proofs.Walks.{held-first}
 use Rattle.context.proofs.Places.{stitch-ready}
-use Rattle.context.proofs.Runs.{runs-found, runs-passed, name-run, stitch-first, stitch-last, stitch-runs}
+use Rattle.context.proofs.Runs.{runs-found, runs-passed, name-run, stitch-run, stitch-runs}
 use borrow.Author.Needs.{needs}
 use Rattle.context.proofs.context.validate_stitch.Statement.{statement}
 use Rattle.context.proofs.context.validate_stitch.Tie as tie
 
 validate-stitch-name-requires : tie.Need-validate-stitch-name-requires
-validate-stitch-name-requires c κs = c .before .before .before .before .before .pre .0 .sections
+validate-stitch-name-requires c κs = c .before .before .before .before .before .before .before .before .before .pre .0 .sections
 
 returns : tie.Need-returns
-returns c = rw (stitch-runs _ _) (runs-found _ _ _ (name-run _ _ _ (c .before .before .before .before .before .before .before .before .pre .1 .0) (c .before .before .before .before .before .before .before .before .args .w) (c .before .before .validate-stitch-name .ensures)) (c .enum-told .given .1))
+returns c = rw (stitch-runs _ _) (runs-found _ _ _ (name-run _ _ _ (c .before .before .before .before .before .before .before .before .before .before .before .before .pre .1 .0) (c .before .before .before .before .before .before .before .before .before .before .before .before .args .w) (c .before .before .validate-stitch-name .ensures)) (c .enum-told .given .1))
 
-count-items-requires : tie.Need-count-items-requires
-count-items-requires c κs = c .before .before .before .before .before .before .before .before .before .pre .1 .1 .0 .body
-
-validate-passes-requires : tie.Need-validate-passes-requires
-validate-passes-requires c κs = (omega arith, (c .before .before .before .before .before .before .before .before .before .before .before .before .before .before .pre .0, (rw (c .before .before .before .before .before .before .before .before .before .stitch-scope .ensures) (stitch-ready _ _ (c .before .before .before .before .before .before .before .before .before .before .before .before .before .before .pre .1 .0) _ (c .before .before .before .before .before .before .before .before .before .before .before .before .before .before .pre .1 .1 .0)), (rw (c .before .before .before .before .before .before .before .before .before .stitch-scope .ensures) (held-first (stitchView (c .before .before .before .before .before .before .before .before .before .before .before .before .before .before .args .v) (c .before .before .before .before .before .before .before .before .before .before .before .before .before .before .args .w)) (c .before .before .before .before .count-items .ensures) (c .before .before .before .before .before .before .before .before .before .before .before .before .before .before .pre .1 .1 .1 .0)), c .before .before .before .before .before .before .before .before .before .before .before .before .before .before .pre .1 .1 .1 .1))))
+validate-body-requires : tie.Need-validate-body-requires
+validate-body-requires c κs = (omega arith, (c .before .before .before .before .before .before .before .before .before .before .before .before .before .before .before .pre .0, (rw (c .before .before .before .before .before .before .stitch-scope .ensures) (stitch-ready _ _ (c .before .before .before .before .before .before .before .before .before .before .before .before .before .before .before .pre .1 .0) _ (c .before .before .before .before .before .before .before .before .before .before .before .before .before .before .before .pre .1 .1 .0)), (c .before .before .before .before .before .before .before .before .before .before .before .before .before .before .before .pre .1 .1 .1 .0, rw (c .before .before .before .before .before .before .stitch-scope .ensures) (c .before .before .before .before .before .before .before .before .before .before .before .before .before .before .before .pre .1 .1 .1 .1)))))
 
 returns-2 : tie.Need-returns-2
-returns-2 c = rw (stitch-runs _ _) (runs-passed _ _ _ (name-run _ _ _ (c .before .before .before .before .before .before .before .before .before .before .before .before .before .before .before .before .before .before .before .before .before .pre .1 .0) (c .before .before .before .before .before .before .before .before .before .before .before .before .before .before .before .before .before .before .before .before .before .args .w) (c .before .before .before .before .before .before .before .before .before .before .before .before .before .before .before .validate-stitch-name .ensures)) (c .before .before .before .before .before .before .before .before .before .before .before .before .before .enum-told2 .given .1) (stitch-first _ _ _ (c .before .before .before .before .before .before .before .before .before .before .before .before .before .before .before .before .before .before .before .before .before .pre .1 .0) (c .before .before .before .before .before .before .before .before .before .before .before .before .before .before .before .before .before .before .before .before .before .args .w) (rw (c .before .before .before .before .before .before .before .before .before .before .before .before .before .before .before .before .stitch-scope .ensures) at (c .before .before .before .before .before .before .validate-passes .ensures .answer)) (c .enum-told3 .given .1)))
-
-validate-passes-requires-2 : tie.Need-validate-passes-requires-2
-validate-passes-requires-2 c κs = (omega arith, (c .before .before .before .before .before .before .before .before .before .before .before .before .before .before .before .before .before .before .before .before .before .before .before .pre .0, (rw (c .before .before .before .before .before .before .before .before .before .before .before .before .before .before .before .before .before .before .stitch-scope .ensures) (stitch-ready _ _ (c .before .before .before .before .before .before .before .before .before .before .before .before .before .before .before .before .before .before .before .before .before .before .before .pre .1 .0) _ (c .before .before .before .before .before .before .before .before .before .before .before .before .before .before .before .before .before .before .before .before .before .before .before .pre .1 .1 .0)), (c .before .before .before .before .before .before .before .before .validate-passes .ensures .held (c .before .before .enum-told4 .given .1), omega (arith, c .before .before .before .before .before .before .before .before .before .before .before .before .before .before .before .before .before .before .before .before .before .before .before .pre .1 .1 .1 .1)))))
-
-returns-3 : tie.Need-returns-3
-returns-3 c = rw (stitch-runs _ _) (runs-passed _ _ _ (name-run _ _ _ (c .before .before .before .before .before .before .before .before .before .before .before .before .before .before .before .before .before .before .before .before .before .before .before .before .before .before .before .before .pre .1 .0) (c .before .before .before .before .before .before .before .before .before .before .before .before .before .before .before .before .before .before .before .before .before .before .before .before .before .before .before .before .args .w) (c .before .before .before .before .before .before .before .before .before .before .before .before .before .before .before .before .before .before .before .before .before .before .validate-stitch-name .ensures)) (c .before .before .before .before .before .before .before .before .before .before .before .before .before .before .before .before .before .before .before .before .enum-told2 .given .1) (stitch-last _ _ _ (c .before .before .before .before .before .before .before .before .before .before .before .before .before .before .before .before .before .before .before .before .before .before .before .before .before .before .before .before .pre .1 .0) (c .before .before .before .before .before .before .before .before .before .before .before .before .before .before .before .before .before .before .before .before .before .before .before .before .before .before .before .before .args .w) (rw (c .before .before .before .before .before .before .before .before .before .before .before .before .before .before .before .before .before .before .before .before .before .before .before .stitch-scope .ensures) at (c .before .before .before .before .before .before .before .before .before .before .before .before .before .validate-passes .ensures .answer)) (c .before .before .before .before .before .before .before .enum-told4 .given .1) (rw (c .before .before .before .before .before .before .before .before .before .before .before .before .before .before .before .before .before .before .before .before .before .before .before .stitch-scope .ensures) at (c .before .before .before .before .validate-passes2 .ensures .answer))))
+returns-2 c = rw (stitch-runs _ _) (runs-passed _ _ _ (name-run _ _ _ (c .before .before .before .before .before .before .before .before .before .before .before .before .before .before .before .before .before .before .before .before .before .before .pre .1 .0) (c .before .before .before .before .before .before .before .before .before .before .before .before .before .before .before .before .before .before .before .before .before .before .args .w) (c .before .before .before .before .before .before .before .before .before .before .before .before .validate-stitch-name .ensures)) (c .before .before .before .before .before .before .before .before .before .before .enum-told2 .given .1) (stitch-run _ _ _ (c .before .before .before .before .before .before .before .before .before .before .before .before .before .before .before .before .before .before .before .before .before .before .pre .1 .0) (c .before .before .before .before .before .before .before .before .before .before .before .before .before .before .before .before .before .before .before .before .before .before .args .w) (rw (c .before .before .before .before .before .before .before .before .before .before .before .before .before .stitch-scope .ensures) at (c .before .before .before .before .before .before .validate-body .ensures))))
 
 pub validate-stitch-spec : {M : Type 1} → statement M
 validate-stitch-spec =
@@ -38,14 +27,8 @@ validate-stitch-spec =
     (λ c. search needs)
     returns
     (λ c. search needs)
-    count-items-requires
-    validate-passes-requires
+    validate-body-requires
     (λ c. search needs)
     (λ c. search needs)
     (λ c. search needs)
-    returns-2
-    (λ c. search needs)
-    validate-passes-requires-2
-    (λ c. search needs)
-    (λ c. search needs)
-    returns-3)
+    returns-2)

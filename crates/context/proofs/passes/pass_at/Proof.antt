@@ -38,9 +38,25 @@ returns-7 c = rw (c .match .keys7)
 
 returns-8 : tie.Need-returns-8
 unfolding passAt
-returns-8 c = let r = c .match .rest in sym (List·getD-eq-default passes Purity {n = c .before .args .number} (past (past (past (past (past (past (past zero-le (r .0 .0 .0 .0 .0 .0 .1)) (r .0 .0 .0 .0 .0 .1)) (r .0 .0 .0 .0 .1)) (r .0 .0 .0 .1)) (r .0 .0 .1)) (r .0 .1)) (r .1)))
+returns-8 c = rw (c .match .keys8)
+
+returns-9 : tie.Need-returns-9
+unfolding passAt
+returns-9 c = rw (c .match .keys9)
+
+returns-10 : tie.Need-returns-10
+unfolding passAt
+returns-10 c = rw (c .match .keys10)
+
+returns-11 : tie.Need-returns-11
+unfolding passAt
+returns-11 c = rw (c .match .keys11)
+
+returns-12 : tie.Need-returns-12
+unfolding passAt
+returns-12 c = let r = c .match .rest in sym (List·getD-eq-default passes Purity {n = c .before .args .number} (past (past (past (past (past (past (past (past (past (past (past zero-le (r .0 .0 .0 .0 .0 .0 .0 .0 .0 .0 .1)) (r .0 .0 .0 .0 .0 .0 .0 .0 .0 .1)) (r .0 .0 .0 .0 .0 .0 .0 .0 .1)) (r .0 .0 .0 .0 .0 .0 .0 .1)) (r .0 .0 .0 .0 .0 .0 .1)) (r .0 .0 .0 .0 .0 .1)) (r .0 .0 .0 .0 .1)) (r .0 .0 .0 .1)) (r .0 .0 .1)) (r .0 .1)) (r .1)))
 
 pub pass-at-spec : {M : Type 1} → statement M
 pass-at-spec =
     tie.close
-    (tie.spec returns returns-2 returns-3 returns-4 returns-5 returns-6 returns-7 returns-8)
+    (tie.spec returns returns-2 returns-3 returns-4 returns-5 returns-6 returns-7 returns-8 returns-9 returns-10 returns-11 returns-12)

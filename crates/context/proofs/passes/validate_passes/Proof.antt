@@ -1,75 +1,38 @@
--- `validate_passes`. The loop's invariant: nothing is found before the passes that are left, and the batch has the first items. Assumes nothing.
-use mathlib.Core.Path.{_≡_, sym, _∙_}
-use Prim.Native.Nat.{_+_, _≤_}
+-- `validate_passes`: where no item breaks a rule the passes find nothing. Assumes nothing.
 use native.Mathlib.Omega.{arith}
-use lib.ListN.{length}
-use Rattle.context.specs.Scopes.{Held}
-use Rattle.context.proofs.Verdict.{never-clear}
-use Rattle.context.proofs.Walks.{Quiet, quiet-start, quiet-end, quiet-found, quiet-next}
+use lib.ListN.{length-take}
+use mathlib.Core.Path.{sym, _∙_}
+use Rattle.context.proofs.Clear.{clear-passes}
 use borrow.Author.Needs.{needs}
 use Rattle.context.proofs.passes.validate_passes.Statement.{statement}
 use Rattle.context.proofs.passes.validate_passes.Tie as tie
 
-abbrev Inv-loop : tie.InvT-loop
-Inv-loop first many file c index count scope items batch₀ scratch₀ pass₀ left₀ batch scratch pass left = ((pass + left ≤ 8) × (length batch ≡ length batch₀) × (length scratch ≡ length scratch₀)) × Held file scope items batch × Quiet file c scope first many pass left
+returns : tie.Need-returns
+returns c = record { answer = clear-passes _ _ _ _ _ (sym (c .if1 .taken) ∙ c .before .before .before .before .before .before .before .is-body-clear .ensures .answer); held = λ e. c .before .before .before .before .before .before .before .is-body-clear .ensures .held }
 
-abbrev μ-loop : tie.MeasureT-loop
-μ-loop first many file c index count scope items batch₀ scratch₀ pass₀ left₀ batch scratch pass left = left
+find-in-passes-requires : tie.Need-find-in-passes-requires
+find-in-passes-requires c κs = (c .before .before .before .before .before .before .before .before .before .before .before .before .before .before .before .before .before .before .before .before .before .before .pre .0, (c .before .before .before .before .before .before .before .before .before .before .before .before .before .before .before .before .before .before .before .before .before .before .pre .1 .0, (c .before .before .before .before .before .before .before .before .before .before .before .before .before .before .before .before .before .before .before .before .before .before .pre .1 .1 .0, (c .before .before .before .before .before .before .before .before .before .is-body-clear .ensures .held, (omega (arith, c .before .before .before .before .before .before .before .before .before .before .before .before .before .before .before .before .before .before .before .before .before .before .pre .1 .1 .1 .1 .0), c .before .before .before .before .before .before .before .before .before .before .before .before .before .before .before .before .before .before .before .before .before .before .pre .1 .1 .1 .1 .1)))))
 
-loop-holds : tie.Need-loop-holds Inv-loop μ-loop
-loop-holds c = (omega arith, c .before .before .before .before .pre .1 .1 .1 .0, quiet-start _ _ _ _ _)
+filter-room-requires : tie.Need-filter-room-requires
+filter-room-requires c κs = c .before .before .before .before .before .before .before .before .pre .1 .1 .0 .body .ordered
 
-validate-nodes-requires : tie.Need-validate-nodes-requires Inv-loop μ-loop
-validate-nodes-requires c κs = (c .before .before .before .before .before .before .before .before .before .pre .1 .0, (c .before .before .before .before .before .before .before .before .before .pre .1 .1 .0, (c .before .before .before .before .loop .inv .1, omega (arith, c .before .before .before .before .loop .inv .0, c .before .before .before .before .before .before .before .before .before .pre .1 .1 .1 .1))))
-
-same-length : tie.Need-same-length Inv-loop μ-loop
-same-length c = omega (arith, c .before .before .before .before .before .before .before .before .before .before .before .loop .inv .0)
-
-same-length-2 : tie.Need-same-length-2 Inv-loop μ-loop
-same-length-2 c = omega (arith, c .before .before .before .before .before .before .before .before .before .before .before .loop .inv .0)
-
-returns : tie.Need-returns Inv-loop μ-loop
-returns c = record { answer = quiet-found (c .before .before .before .before .before .before .before .before .before .before .before .loop .inv .2) (omega (arith, c .before .before .before .before .before .before .before .before .before .before .loop-test)) (c .before .before .before .before .before .before .before .before .before .pass-at .ensures) (c .before .before .before .before .before .before .validate-nodes .ensures .answer) (c .enum-told .given .1); held = λ e. absurd (never-clear (sym (c .enum-told .given .1) ∙ e)) }
-
-add-pass : tie.Need-add-pass Inv-loop μ-loop
-add-pass c = omega (arith, c .before .before .before .before .before .before .before .before .before .before .before .loop .inv .0, c .before .before .before .before .before .before .before .before .before .before .loop-test)
-
-sub-left : tie.Need-sub-left Inv-loop μ-loop
-sub-left c = omega (arith, c .before .before .before .before .before .before .before .before .before .before .loop-test)
-
-loop-less : tie.Need-loop-less Inv-loop μ-loop
-loop-less c = omega (arith, c .before .before .before .before .before .before .before .before .before .before .loop-test)
-
-loop-again : tie.Need-loop-again Inv-loop μ-loop
-loop-again c = (omega (arith, c .before .before .before .before .before .before .before .before .before .before .before .loop .inv .0, c .before .before .before .before .before .before .before .before .before .before .loop-test), c .before .before .before .before .before .before .validate-nodes .ensures .held (c .enum-told2 .given .1), quiet-next (c .before .before .before .before .before .before .before .before .before .before .before .loop .inv .2) (omega (arith, c .before .before .before .before .before .before .before .before .before .before .loop-test)) (c .before .before .before .before .before .before .before .before .before .pass-at .ensures) (c .before .before .before .before .before .before .validate-nodes .ensures .answer) (c .enum-told2 .given .1))
-
-same-length-3 : tie.Need-same-length-3 Inv-loop μ-loop
-same-length-3 c = omega (arith, c .before .loop .inv .0)
-
-same-length-4 : tie.Need-same-length-4 Inv-loop μ-loop
-same-length-4 c = omega (arith, c .before .loop .inv .0)
-
-returns-2 : tie.Need-returns-2 Inv-loop μ-loop
-returns-2 c = record { answer = quiet-end (c .before .loop .inv .2) (omega (arith, c .loop-test)); held = λ e. c .before .loop .inv .1 }
+slice-aggregate-is-body-clear : tie.Need-slice-aggregate-is-body-clear
+slice-aggregate-is-body-clear c = omega (arith, length-take (c .before .filter-room .result) (c .before .before .before .before .before .before .before .before .before .before .args .gathers .now), c .before .filter-room .ensures)
 
 pub validate-passes-spec : {M : Type 1} → statement M
 validate-passes-spec =
     tie.close
     (tie.spec
-    Inv-loop
-    μ-loop
-    loop-holds
+    filter-room-requires
+    (λ c. search needs)
+    slice-aggregate-is-body-clear
     (λ c κs. search needs)
-    validate-nodes-requires
     (λ c. search needs)
-    same-length
-    same-length-2
+    (λ c. search needs)
+    (λ c. search needs)
     returns
+    find-in-passes-requires
     (λ c. search needs)
-    add-pass
-    sub-left
-    loop-less
-    loop-again
-    same-length-3
-    same-length-4
-    returns-2)
+    (λ c. search needs)
+    (λ c. search needs)
+    (λ c. search needs))

@@ -8,10 +8,10 @@ use Rattle.context.proofs.structure.validate_flow_parameter_names.State
 use Rattle.context.proofs.structure.validate_flow_parameter_names.Tie as tie
 
 abbrev Inv-loop : tie.InvT-loop
-Inv-loop file c flow params left₀ at₀ left at = (at ≤ length file + 256) × ParamsLeft file c flow params left at
+Inv-loop file c functions flow params left₀ at₀ left at = (at ≤ length file + 256) × ParamsLeft file c flow params left at
 
 abbrev μ-loop : tie.MeasureT-loop
-μ-loop file c flow params left₀ at₀ left at = left
+μ-loop file c functions flow params left₀ at₀ left at = left
 
 loop-holds : tie.Need-loop-holds Inv-loop μ-loop
 loop-holds c = (omega arith, params-start _ _ _ _)
@@ -20,7 +20,7 @@ returns : tie.Need-returns Inv-loop μ-loop
 returns c h = params-past (c .before .before .loop .inv .1) h (omega arith)
 
 check-parameter-name-requires : tie.Need-check-parameter-name-requires Inv-loop μ-loop
-check-parameter-name-requires c κs = c .before .before .before .before .before .before .pre .0
+check-parameter-name-requires c κs = (c .before .before .before .before .before .before .before .pre .0, c .before .before .before .before .before .before .before .pre .1 .0)
 
 returns-2 : tie.Need-returns-2 Inv-loop μ-loop
 returns-2 c h = params-found (c .before .before .before .before .before .before .before .before .loop .inv .1) h (omega arith) (omega arith) (c .before .before .before .before .before .name-at .ensures) (c .before .before .before .before .check-parameter-name .ensures) (c .before .before .judged .given .1) (c .breach-at .ensures)
@@ -29,16 +29,16 @@ shared-slice-read-at : tie.Need-shared-slice-read-at Inv-loop μ-loop
 shared-slice-read-at c = omega arith
 
 cast-at : tie.Need-cast-at Inv-loop μ-loop
-cast-at c = omega (arith, c .shared-slice-known3 .given (c .before .before .before .before .before .before .before .loop .at))
+cast-at c = omega (arith, c .before .before .before .before .before .before .before .before .shared-slice-known3 .given (c .before .before .before .before .before .before .before .loop .at))
 
 add-at-2 : tie.Need-add-at-2 Inv-loop μ-loop
-add-at-2 c = omega (arith, c .shared-slice-known3 .given (c .before .before .before .before .before .before .before .loop .at))
+add-at-2 c = omega (arith, c .before .before .before .before .before .before .before .before .shared-slice-known3 .given (c .before .before .before .before .before .before .before .loop .at))
 
 add-at-3 : tie.Need-add-at-3 Inv-loop μ-loop
-add-at-3 c = omega (arith, c .shared-slice-known3 .given (c .before .before .before .before .before .before .before .loop .at))
+add-at-3 c = omega (arith, c .before .before .before .before .before .before .before .before .shared-slice-known3 .given (c .before .before .before .before .before .before .before .loop .at))
 
 loop-again : tie.Need-loop-again Inv-loop μ-loop
-loop-again c = (omega (arith, c .shared-slice-known3 .given (c .before .before .before .before .before .before .before .loop .at)), params-passed (c .before .before .before .before .before .before .before .loop .inv .1) (omega arith) (omega arith) (c .before .before .before .before .name-at .ensures) (c .before .before .before .check-parameter-name .ensures) (c .before .enum-told .given .1))
+loop-again c = (omega (arith, c .before .before .before .before .before .before .before .before .shared-slice-known3 .given (c .before .before .before .before .before .before .before .loop .at)), params-passed (c .before .before .before .before .before .before .before .loop .inv .1) (omega arith) (omega arith) (c .before .before .before .before .name-at .ensures) (c .before .before .before .check-parameter-name .ensures) (c .before .enum-told .given .1))
 
 returns-3 : tie.Need-returns-3 Inv-loop μ-loop
 returns-3 c h = params-end (c .before .loop .inv .1) h (omega arith)

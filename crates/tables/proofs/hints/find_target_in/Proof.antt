@@ -7,9 +7,6 @@ use Rattle.tables.proofs.hints.find_target_in.Tie as tie
 returns : tie.Need-returns
 returns c = sym (c .before .find-in-slots .ensures .some (c .if1 .taken))
 
-returns-2 : tie.Need-returns-2
-returns-2 c = sym (c .before .find-in-slots2 .ensures .some (c .if2 .taken))
-
 pub find-target-in-spec : {M : Type 1} → statement M
 find-target-in-spec =
     tie.close
@@ -17,7 +14,5 @@ find-target-in-spec =
     (λ c κs. search needs)
     (λ c κs. search needs)
     returns
-    (λ c κs. search needs)
-    returns-2
     (λ c κs. search needs)
     (λ c. search needs))

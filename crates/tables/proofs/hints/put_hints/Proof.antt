@@ -1,4 +1,4 @@
--- `tables::hints::put_hints` meets its contract. The loop's invariant: k is at most the number of entries with hints. Assumes nothing.
+-- `put_hints`. The loop's invariant: k is at most the number of entries with hints. Assumes nothing.
 use mathlib.Core.Path.{_≡_}
 use Prim.Native.Nat.{_-_, _≤_}
 use lib.ListN.{length}
@@ -7,10 +7,10 @@ use Rattle.tables.proofs.hints.put_hints.Statement.{statement}
 use Rattle.tables.proofs.hints.put_hints.Tie as tie
 
 abbrev Inv-loop : tie.InvT-loop
-Inv-loop file index count whole₀ last₀ end k₀ whole last k = (k ≤ end) × (length whole ≡ length whole₀) × (length last ≡ length last₀)
+Inv-loop file index count hints₀ end k₀ hints k = (k ≤ end) × (length hints ≡ length hints₀)
 
 abbrev μ-loop : tie.MeasureT-loop
-μ-loop file index count whole₀ last₀ end k₀ whole last k = end - k
+μ-loop file index count hints₀ end k₀ hints k = end - k
 
 pub put-hints-spec : {M : Type 1} → statement M
 put-hints-spec =
@@ -20,7 +20,6 @@ put-hints-spec =
     μ-loop
     (λ c κs. search needs)
     (λ c κs. search needs)
-    (λ c κs. search needs)
     (λ c. search needs)
     (λ c κs. search needs)
     (λ c. search needs)
@@ -32,6 +31,7 @@ put-hints-spec =
     (λ c κs. search needs)
     (λ c. search needs)
     (λ c κs. search needs)
+    (λ c. search needs)
     (λ c. search needs)
     (λ c. search needs)
     (λ c. search needs)

@@ -1,0 +1,28 @@
+-- `check_gather_label_in`: the tests pick rule 10. Assumes nothing.
+use mathlib.Core.Path.{refl}
+use Rattle.checks.proofs.Cases.{picked, passed, gathers-judged}
+use borrow.Author.Needs.{needs}
+use Rattle.filters.proofs.gathers.check_gather_label_in.Statement.{statement}
+use Rattle.filters.proofs.gathers.check_gather_label_in.Tie as tie
+
+returns : tie.Need-returns
+returns c k h = rw (gathers-judged k h _ _) (picked _ (c .before .before .before .before .before .before .before .is-sort .ensures) (c .before .before .before .before .before .before .if1 .taken) (picked _ (rw (c .before .before .before .before .before .item-name .ensures) at (c .before .before .before .has-gather-in .ensures)) (c .if2 .taken) refl))
+
+returns-2 : tie.Need-returns-2
+returns-2 c k h = rw (gathers-judged k h _ _) (picked _ (c .before .before .before .before .before .before .before .is-sort .ensures) (c .before .before .before .before .before .before .if1 .taken) (passed _ (rw (c .before .before .before .before .before .item-name .ensures) at (c .before .before .before .has-gather-in .ensures)) (c .if2 .left) refl))
+
+returns-3 : tie.Need-returns-3
+returns-3 c k h = rw (gathers-judged k h _ _) (passed _ (c .before .is-sort .ensures) (c .if1 .left) refl)
+
+pub check-gather-label-in-spec : {M : Type 1} → statement M
+check-gather-label-in-spec =
+    tie.close
+    (tie.spec
+    (λ c κs. search needs)
+    (λ c κs. search needs)
+    (λ c κs. search needs)
+    (λ c. search needs)
+    returns
+    (λ c. search needs)
+    returns-2
+    returns-3)

@@ -1,0 +1,25 @@
+-- `check_short`: the story, in buffers of its own. Assumes nothing.
+use borrow.Author.Needs.{needs}
+use Rattle.validator.proofs.check_short.Statement.{statement}
+use Rattle.validator.proofs.check_short.Tie as tie
+
+check-story-requires : tie.Need-check-story-requires
+check-story-requires c κs = (c .before .before .before .before .before .before .before .before .before .before .before .pre .0, (c .before .before .before .before .before .before .before .before .before .before .before .pre .1, search needs))
+
+returns : tie.Need-returns
+returns c = c .before .before .before .before .before .before .before .before .before .before .check-story .ensures
+
+pub check-short-spec : {M : Type 1} → statement M
+check-short-spec =
+    tie.close
+    (tie.spec
+    (λ c. search needs)
+    (λ c. search needs)
+    (λ c. search needs)
+    (λ c. search needs)
+    (λ c. search needs)
+    (λ c. search needs)
+    check-story-requires
+    (λ c. search needs)
+    (λ c. search needs)
+    returns)
