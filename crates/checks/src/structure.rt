@@ -1,14 +1,13 @@
-// Temps, gathers, choices, functions, parameters and stitch names: rules 4 to 7 and 10 to 14 (structure.rs).
+// Temps, choices, functions, parameters and stitch names: rules 4 to 7 and 11 to 14 (structure.rs).
 ghost use mathlib.Core.Path.{_≡_};
 ghost use mathlib.Core.List.{List};
 ghost use Prim.Native.Nat.{_≤_};
-ghost use lib.ListN.{length, take};
+ghost use lib.ListN.{length};
 ghost use lib.Dec.{eqb};
-ghost use Rattle.story.specs.Story.{What, whats, code};
+ghost use Rattle.story.specs.Story.{What, code};
 ghost use Rattle.story.specs.File.{InOrder};
 ghost use Rattle.rules.specs.Rules.{Known, Here, target};
-ghost use Rattle.rules.specs.Steps.{bracket, Step, temps, gathers, choices};
-ghost use Rattle.bodies.specs.Bodies.{bodyIn, Range};
+ghost use Rattle.rules.specs.Steps.{bracket, Step, temps, choices};
 ghost use Rattle.tables.specs.Functions.{Functions};
 ghost use Rattle.checks.specs.Judged.{judgedBy, tempJudged, paramJudged, stitchJudged};
 ghost use Rattle.checks.specs.Context.{ScopeReady, Sorted, knownIn, hereAt, whatAt};
@@ -21,14 +20,12 @@ use crate::labels::is_label;
 use crate::parameters::is_parameter;
 use bodies::items::CHOICE;
 use bodies::items::DIVERT;
-use bodies::items::GATHER;
 use bodies::items::TEMP;
 use bodies::items::THREAD;
 use bodies::items::TUNNEL;
 use bodies::items::choice_has_explicit_divert;
 use bodies::items::in_branch;
 use bodies::items::item_name;
-use bodies::searches::has_gather_before;
 use names::is_end_or_done;
 use rules::Rule;
 use story::Sections;
@@ -107,28 +104,6 @@ pub fn validate_temp_name(
             item_name(file, slot.place, slot.tag),
             scratch,
         );
-    }
-    Judged::Fine
-}
-
-// The label of an item that is a gather, in the body from..to: rule 10.
-pub fn check_gather_label(
-    file: &[u8],
-    from: usize,
-    to: usize,
-    slot: Slot,
-    scratch: &mut [u32],
-) -> Judged
-    requires { ⌜ Range (now file) from to ⌝ }
-    requires { ⌜ 2 ≤ length (now scratch) ⌝ }
-    requires { ⌜ Sorted (now file) slot ⌝ }
-    ensures { λ r. ⌜ ((k : Known) (h : Here) → r ≡ judgedBy k h gathers (take (slot .number) (whats (bodyIn (now (file .entry)) from to))) (whatAt (now (file .entry)) slot)) ⌝ }
-{
-    if is_sort(file, slot, GATHER) {
-        let name = item_name(file, slot.place, slot.tag);
-        if has_gather_before(file, from, to, slot.number, name, scratch) {
-            return Judged::Broken(Rule::GatherRepeated);
-        }
     }
     Judged::Fine
 }

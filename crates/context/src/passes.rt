@@ -26,8 +26,8 @@ use checks::diverts::validate_node_variable_divert_target;
 use checks::structure::check_function_body_purity;
 use checks::structure::check_no_direct_choice_in_branch;
 use checks::structure::validate_temp_name;
-use filters::declared::validate_node_vars_in;
-use filters::gathers::check_gather_label_in;
+use filters::declared::validate_node_vars;
+use filters::gathers::check_gather_label;
 use filters::gathers::pass_item;
 use filters::words::clear_filter;
 use story::Sections;
@@ -90,8 +90,8 @@ fn judge(
         Pass::Calls => validate_node_function_calls(file, c, functions, slot),
         Pass::Choices => check_no_direct_choice_in_branch(file, slot),
         Pass::VariableDiverts => validate_node_variable_divert_target(file, scope, slot),
-        Pass::Variables => validate_node_vars_in(file, scope, slot, declared, scratch),
-        Pass::Gathers => check_gather_label_in(file, scope.from, scope.to, slot, gathers, scratch),
+        Pass::Variables => validate_node_vars(file, scope, slot, declared, scratch),
+        Pass::Gathers => check_gather_label(file, scope.from, scope.to, slot, gathers, scratch),
         Pass::Purity => check_function_body_purity(file, slot),
     }
 }

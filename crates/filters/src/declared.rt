@@ -90,7 +90,7 @@ pub fn is_forbidden_in(
 }
 
 // The name of an item that is a variable: rule 15. The filter has what the knot declares.
-pub fn validate_node_vars_in(
+pub fn validate_node_vars(
     file: &[u8],
     scope: ScopeView,
     slot: Slot,

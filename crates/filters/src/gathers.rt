@@ -51,7 +51,7 @@ pub fn has_gather_in(
 }
 
 // The label of an item that is a gather, in the body from..to: rule 10. The filter has the gathers before it.
-pub fn check_gather_label_in(
+pub fn check_gather_label(
     file: &[u8],
     from: usize,
     to: usize,

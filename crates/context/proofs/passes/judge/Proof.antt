@@ -26,11 +26,11 @@ returns-5 c = rw (c .before .enum-told5 .given .1) (c .validate-node-variable-di
 
 returns-6 : tie.Need-returns-6
 unfolding rulesOf
-returns-6 c = rw (c .before .before .before .before .enum-told6 .given .1) (c .before .before .validate-node-vars-in .ensures _ _)
+returns-6 c = rw (c .before .before .before .before .enum-told6 .given .1) (c .before .before .validate-node-vars .ensures _ _)
 
 returns-7 : tie.Need-returns-7
 unfolding rulesOf
-returns-7 c = rw (c .before .before .before .before .enum-told7 .given .1) (c .before .before .check-gather-label-in .ensures _ _)
+returns-7 c = rw (c .before .before .before .before .enum-told7 .given .1) (c .before .before .check-gather-label .ensures _ _)
 
 returns-8 : tie.Need-returns-8
 unfolding rulesOf
@@ -48,11 +48,11 @@ validate-node-function-calls-requires c κs = (c .before .before .before .before
 validate-node-variable-divert-target-requires : tie.Need-validate-node-variable-divert-target-requires
 validate-node-variable-divert-target-requires c κs = (c .before .before .before .before .before .before .before .before .before .pre .1 .0, c .before .before .before .before .before .before .before .before .before .pre .1 .1 .1 .0)
 
-validate-node-vars-in-requires : tie.Need-validate-node-vars-in-requires
-validate-node-vars-in-requires c κs = (c .before .before .before .before .before .before .before .before .before .before .pre .1 .0, (c .before .before .before .before .before .before .before .before .before .before .pre .1 .1 .0, (c .before .before .before .before .before .before .before .before .before .before .pre .1 .1 .1 .0, c .before .before .before .before .before .before .before .before .before .before .pre .1 .1 .1 .1 .0)))
+validate-node-vars-requires : tie.Need-validate-node-vars-requires
+validate-node-vars-requires c κs = (c .before .before .before .before .before .before .before .before .before .before .pre .1 .0, (c .before .before .before .before .before .before .before .before .before .before .pre .1 .1 .0, (c .before .before .before .before .before .before .before .before .before .before .pre .1 .1 .1 .0, c .before .before .before .before .before .before .before .before .before .before .pre .1 .1 .1 .1 .0)))
 
-check-gather-label-in-requires : tie.Need-check-gather-label-in-requires
-check-gather-label-in-requires c κs = (c .before .before .before .before .before .before .before .before .before .before .pre .1 .0 .body, (c .before .before .before .before .before .before .before .before .before .before .pre .1 .1 .0, (c .before .before .before .before .before .before .before .before .before .before .pre .1 .1 .1 .0, c .before .before .before .before .before .before .before .before .before .before .pre .1 .1 .1 .1 .1)))
+check-gather-label-requires : tie.Need-check-gather-label-requires
+check-gather-label-requires c κs = (c .before .before .before .before .before .before .before .before .before .before .pre .1 .0 .body, (c .before .before .before .before .before .before .before .before .before .before .pre .1 .1 .0, (c .before .before .before .before .before .before .before .before .before .before .pre .1 .1 .1 .0, c .before .before .before .before .before .before .before .before .before .before .pre .1 .1 .1 .1 .1)))
 
 pub judge-spec : {M : Type 1} → statement M
 judge-spec =
@@ -69,9 +69,9 @@ judge-spec =
     (λ c. search needs)
     validate-node-variable-divert-target-requires
     (λ c. search needs)
-    validate-node-vars-in-requires
+    validate-node-vars-requires
     (λ c. search needs)
-    check-gather-label-in-requires
+    check-gather-label-requires
     (λ c. search needs)
     (λ c κs. search needs)
     (λ c. search needs)

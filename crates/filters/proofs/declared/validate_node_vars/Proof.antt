@@ -1,9 +1,9 @@
--- `validate_node_vars_in`: the tests pick rule 15. Assumes nothing.
+-- `validate_node_vars`: the tests pick rule 15. Assumes nothing.
 use mathlib.Core.Path.{refl}
 use Rattle.checks.proofs.Cases.{picked, passed, variables-judged}
 use borrow.Author.Needs.{needs}
-use Rattle.filters.proofs.declared.validate_node_vars_in.Statement.{statement}
-use Rattle.filters.proofs.declared.validate_node_vars_in.Tie as tie
+use Rattle.filters.proofs.declared.validate_node_vars.Statement.{statement}
+use Rattle.filters.proofs.declared.validate_node_vars.Tie as tie
 
 returns : tie.Need-returns
 returns c k before = rw (variables-judged k _ before _) (picked _ (c .before .before .before .before .before .before .before .is-sort .ensures) (c .before .before .before .before .before .before .if1 .taken) (picked _ (rw (c .before .before .before .before .before .item-name .ensures) at (c .before .before .before .is-forbidden-in .ensures)) (c .if2 .taken) refl))
@@ -14,8 +14,8 @@ returns-2 c k before = rw (variables-judged k _ before _) (picked _ (c .before .
 returns-3 : tie.Need-returns-3
 returns-3 c k before = rw (variables-judged k _ before _) (passed _ (c .before .is-sort .ensures) (c .if1 .left) refl)
 
-pub validate-node-vars-in-spec : {M : Type 1} → statement M
-validate-node-vars-in-spec =
+pub validate-node-vars-spec : {M : Type 1} → statement M
+validate-node-vars-spec =
     tie.close
     (tie.spec
     (λ c κs. search needs)

@@ -1,9 +1,9 @@
--- `check_gather_label_in`: the tests pick rule 10. Assumes nothing.
+-- `check_gather_label`: the tests pick rule 10. Assumes nothing.
 use mathlib.Core.Path.{refl}
 use Rattle.checks.proofs.Cases.{picked, passed, gathers-judged}
 use borrow.Author.Needs.{needs}
-use Rattle.filters.proofs.gathers.check_gather_label_in.Statement.{statement}
-use Rattle.filters.proofs.gathers.check_gather_label_in.Tie as tie
+use Rattle.filters.proofs.gathers.check_gather_label.Statement.{statement}
+use Rattle.filters.proofs.gathers.check_gather_label.Tie as tie
 
 returns : tie.Need-returns
 returns c k h = rw (gathers-judged k h _ _) (picked _ (c .before .before .before .before .before .before .before .is-sort .ensures) (c .before .before .before .before .before .before .if1 .taken) (picked _ (rw (c .before .before .before .before .before .item-name .ensures) at (c .before .before .before .has-gather-in .ensures)) (c .if2 .taken) refl))
@@ -14,8 +14,8 @@ returns-2 c k h = rw (gathers-judged k h _ _) (picked _ (c .before .before .befo
 returns-3 : tie.Need-returns-3
 returns-3 c k h = rw (gathers-judged k h _ _) (passed _ (c .before .is-sort .ensures) (c .if1 .left) refl)
 
-pub check-gather-label-in-spec : {M : Type 1} → statement M
-check-gather-label-in-spec =
+pub check-gather-label-spec : {M : Type 1} → statement M
+check-gather-label-spec =
     tie.close
     (tie.spec
     (λ c κs. search needs)
