@@ -43,8 +43,9 @@ fn write_stored(program: &str, folder: &str) -> ExitCode {
         return ExitCode::from(2);
     };
     let folder = std::path::Path::new(folder);
-    for (name, bytes) in [("stdin", files.input), ("stdout", files.output)] {
-        if let Err(error) = std::fs::write(folder.join(name), bytes) {
+    for (name, bytes) in [("stdin", Some(files.input)), ("stdout", files.output)] {
+        let written = bytes.map(|bytes| std::fs::write(folder.join(name), bytes));
+        if let Some(Err(error)) = written {
             eprintln!("{}: {error}", folder.join(name).display());
             return ExitCode::FAILURE;
         }
@@ -92,7 +93,7 @@ fn run(count: u64, seed: u64) -> ExitCode {
     let mut library = library();
     match &library {
         Some(library) => println!("library: {}", library.title()),
-        None => println!("library: none (built without QAABIREED_LIB_DIR)"),
+        None => println!("library: none (no QAABIREED_LIB_DIR, no archive built)"),
     }
     let mut tally = Tally::default();
     for number in 0..count {
@@ -100,8 +101,9 @@ fn run(count: u64, seed: u64) -> ExitCode {
         let subject = program.as_mut().map(|program| program as &mut dyn Subject);
         let mut outcome = compare(&case, subject);
         if let Some(library) = &mut library {
-            let differences = compare_lent(&case, library.as_mut());
-            outcome.differences.extend(differences);
+            let lent = compare_lent(&case, library.as_mut());
+            tally.count_lent(&lent);
+            outcome.differences.extend(lent.differences);
         }
         tally.count(number, &case.file, &outcome);
     }
