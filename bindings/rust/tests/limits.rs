@@ -211,6 +211,21 @@ fn depth_64_is_accepted_and_65_refused() {
 }
 
 #[test]
+fn calls_fit_a_stack_of_256_kib() {
+    let (longest, _) = longest();
+    let files = [negations(64), sequences(64), sequences(65), longest];
+    let calls = move || {
+        let mut validator = Validator::new();
+        for file in &files {
+            validator.check_bytes(file);
+            validator.lookup_bytes(file, b"nowhere");
+        }
+    };
+    let thread = std::thread::Builder::new().stack_size(256 * 1024);
+    thread.spawn(calls).unwrap().join().unwrap();
+}
+
+#[test]
 fn no_story_is_encoded_to_depth_65() {
     let stories = [negation_story(DEEPEST + 1), sequence_story(DEEPEST + 1)];
     for story in stories {
