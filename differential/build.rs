@@ -41,7 +41,8 @@ fn main() {
 fn link_library() {
     println!("cargo::rerun-if-env-changed=QAABIREED_LIB_DIR");
     println!("cargo::rustc-check-cfg=cfg(qaabireed_library)");
-    let Some(given) = std::env::var_os("QAABIREED_LIB_DIR") else {
+    let given = std::env::var_os("QAABIREED_LIB_DIR");
+    let Some(given) = given.filter(|given| !given.is_empty()) else {
         return;
     };
     let Some(folder) = with_archive(&Path::new(ROOT).join(&given)) else {

@@ -27,7 +27,8 @@ fn main() {
 
 /// The folder of the archive: the given one, else the repository's, where it is built if absent.
 fn archive_folder() -> Result<PathBuf, String> {
-    if let Some(given) = std::env::var_os("QAABIREED_LIB_DIR") {
+    let given = std::env::var_os("QAABIREED_LIB_DIR");
+    if let Some(given) = given.filter(|given| !given.is_empty()) {
         let shown = given.display();
         return with_archive(Path::new(ROOT).join(&given))
             .ok_or(format!("QAABIREED_LIB_DIR has no {ARCHIVE} in it: {shown}"));
