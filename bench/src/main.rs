@@ -11,6 +11,7 @@ mod tasks;
 
 use cell::{Cell, LIMIT};
 use families::FAMILIES;
+use std::io::Write;
 use std::process::ExitCode;
 
 /// Measures everything and prints the report, or measures the one cell that is named.
@@ -44,9 +45,9 @@ fn report_all(path: Option<&str>) -> Result<(), String> {
         }
     }
     let report = report::report(&cells);
-    print!("{report}");
-    match path.map(|path| std::fs::write(path, report)) {
-        Some(Err(error)) => Err(format!("the report was not written: {error}")),
-        _ => Ok(()),
-    }
+    let written = path.map_or(Ok(()), |path| std::fs::write(path, &report));
+    let printed = std::io::stdout().write_all(report.as_bytes());
+    written
+        .and(printed)
+        .map_err(|error| format!("the report was not written: {error}"))
 }

@@ -19,12 +19,17 @@ fn main() -> ExitCode {
             _ => usage(),
         },
         ["check"] => check(),
-        ["list"] => {
-            print!("{}", vectors::text());
-            ExitCode::SUCCESS
-        }
+        ["list"] => put(vectors::text().as_bytes()),
         ["stored", program, folder] => write_stored(program, folder),
         _ => usage(),
+    }
+}
+
+/// Writes to standard output; a reader that went away is a failure, and no more than that.
+fn put(text: &[u8]) -> ExitCode {
+    match std::io::stdout().write_all(text) {
+        Ok(()) => ExitCode::SUCCESS,
+        Err(_) => ExitCode::FAILURE,
     }
 }
 
@@ -60,11 +65,7 @@ fn check() -> ExitCode {
         eprintln!("{error}");
         return ExitCode::FAILURE;
     }
-    let line = [&second::program_line(&input), &b"\n"[..]].concat();
-    match std::io::stdout().write_all(&line) {
-        Ok(()) => ExitCode::SUCCESS,
-        Err(_) => ExitCode::FAILURE,
-    }
+    put(&[&second::program_line(&input), &b"\n"[..]].concat())
 }
 
 /// The library, where the build has linked it.
@@ -84,17 +85,14 @@ fn run(count: u64, seed: u64) -> ExitCode {
             return ExitCode::from(2);
         }
     };
-    match &program {
-        Some(program) => println!("subject: {}", program.title()),
-        None => println!(
-            "subject: none (no INK_CHECK, no program built); the original is compared with the second implementation only"
-        ),
-    }
     let mut library = library();
-    match &library {
-        Some(library) => println!("library: {}", library.title()),
-        None => println!("library: none (no QAABIREED_LIB_DIR, no archive built)"),
-    }
+    let program_title = program.as_ref().map(Subject::title);
+    let program_title =
+        program_title.unwrap_or("none (no INK_CHECK, no program built)".to_string());
+    let library_title = library.as_ref().map(|library| library.title());
+    let library_title =
+        library_title.unwrap_or("none (no QAABIREED_LIB_DIR, no archive built)".to_string());
+    put(format!("program: {program_title}\nlibrary: {library_title}\n").as_bytes());
     let mut tally = Tally::default();
     for number in 0..count {
         let case = case(seed, number);
@@ -107,9 +105,9 @@ fn run(count: u64, seed: u64) -> ExitCode {
         }
         tally.count(number, &case.file, &outcome);
     }
-    println!("{}", tally.report());
+    let written = put((tally.report() + "\n").as_bytes());
     match tally.good() {
-        true => ExitCode::SUCCESS,
+        true => written,
         false => ExitCode::FAILURE,
     }
 }
