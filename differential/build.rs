@@ -1,6 +1,9 @@
 //! Finds the folder of the original Rust and, where one is named, the archive under test.
 
-use std::path::PathBuf;
+use std::path::{Path, PathBuf};
+
+/// The repository's root, from this folder; relative folders are taken from there.
+const ROOT: &str = "..";
 
 /// The files that the crate includes, as paths inside the folder.
 const FILES: [&str; 7] = [
@@ -17,8 +20,8 @@ const FILES: [&str; 7] = [
 fn main() {
     println!("cargo::rerun-if-env-changed=INK_VALIDATE_SRC");
     println!("cargo::rerun-if-changed=build.rs");
-    let given = std::env::var("INK_VALIDATE_SRC").unwrap_or("../../shared/docs/src".to_string());
-    let folder = PathBuf::from(&given);
+    let given = std::env::var("INK_VALIDATE_SRC").unwrap_or("../shared/docs/src".to_string());
+    let folder = Path::new(ROOT).join(&given);
     for file in FILES {
         let path = folder.join(file);
         println!("cargo::rerun-if-changed={}", path.display());
@@ -38,20 +41,24 @@ fn main() {
 fn link_library() {
     println!("cargo::rerun-if-env-changed=QAABIREED_LIB_DIR");
     println!("cargo::rustc-check-cfg=cfg(qaabireed_library)");
-    let Some(given) = std::env::var_os("QAABIREED_LIB_DIR") else {
+    let given = std::env::var_os("QAABIREED_LIB_DIR");
+    let Some(given) = given.filter(|given| !given.is_empty()) else {
         return;
     };
-    let folder = PathBuf::from(given);
+    let Some(folder) = with_archive(&Path::new(ROOT).join(&given)) else {
+        let given = given.display();
+        println!("cargo::error=QAABIREED_LIB_DIR has no libqaabireed.a in it: {given}");
+        return;
+    };
     let archive = folder.join("libqaabireed.a");
     println!("cargo::rerun-if-changed={}", archive.display());
-    if !archive.is_file() {
-        println!(
-            "cargo::error=QAABIREED_LIB_DIR has no libqaabireed.a in it: {}",
-            folder.display()
-        );
-        return;
-    }
     println!("cargo::rustc-link-search=native={}", folder.display());
     println!("cargo::rustc-link-lib=static=qaabireed");
     println!("cargo::rustc-cfg=qaabireed_library");
+}
+
+/// The folder as a full path, if it has the archive.
+fn with_archive(folder: &Path) -> Option<PathBuf> {
+    let folder = folder.canonicalize().ok()?;
+    folder.join("libqaabireed.a").is_file().then_some(folder)
 }

@@ -17,50 +17,66 @@ pub struct Family {
     pub title: &'static str,
     /// One line for the report.
     pub about: &'static str,
+    /// The sizes at which it is measured, in bytes.
+    pub sizes: &'static [usize],
     /// Its samples of so many bytes in all.
     pub make: fn(usize) -> Vec<Sample>,
 }
+
+/// The sizes of most families.
+const SIZES: &[usize] = &[4096, 65_536, 1_048_576];
+
+/// The sizes of the family whose growth is looked at more closely.
+const MORE_SIZES: &[usize] = &[4096, 16_384, 65_536, 262_144, 1_048_576];
 
 /// All families in the order of the report.
 pub const FAMILIES: [Family; 8] = [
     Family {
         title: "novel",
         about: "chapters with scenes, text, choices, conditions, calls and diverts, nearly half of them by short names; accepted",
+        sizes: MORE_SIZES,
         make: |size| vec![Sample::of(grown(size, novel::novel))],
     },
     Family {
         title: "novel, broken late",
         about: "the same, and the last divert of the last chapter leads nowhere: breach 2",
+        sizes: SIZES,
         make: |size| vec![Sample::of(grown(size, broken_late))],
     },
     Family {
         title: "novel, broken early",
         about: "the same, and the first divert of the root leads nowhere: breach 2",
+        sizes: SIZES,
         make: |size| vec![Sample::of(grown(size, broken_early))],
     },
     Family {
         title: "functions",
         about: "nine functions of ten flows, with parameters, temps, nested expressions and calls; accepted",
+        sizes: SIZES,
         make: |size| vec![Sample::of(grown(size, functions::functions))],
     },
     Family {
         title: "flat knot",
         about: "one knot of gathers and labelled choices that divert to one another by short names; accepted",
+        sizes: SIZES,
         make: |size| vec![Sample::of(grown(size, flat::flat))],
     },
     Family {
         title: "globals",
         about: "globals, each set, printed and diverted to; accepted",
+        sizes: SIZES,
         make: |size| vec![Sample::of(grown(size, globals::globals))],
     },
     Family {
         title: "tiny stories",
         about: "many stories of under 300 bytes, checked one after the other; half of them with names exchanged at random",
+        sizes: SIZES,
         make: tiny::stories,
     },
     Family {
         title: "damaged files",
         about: "four copies of a novel, a kind without meaning 10, 50, 90 and 100 hundredths in: refused 5",
+        sizes: SIZES,
         make: damaged,
     },
 ];
@@ -113,7 +129,7 @@ fn damaged(size: usize) -> Vec<Sample> {
 #[cfg(test)]
 mod tests {
     use super::*;
-    use crate::sample::disagreement;
+    use crate::tasks::{Subject, Task};
     use qaabireed::Validator;
 
     /// The start of what this check says of a family's first sample at 16 KB.
@@ -138,7 +154,11 @@ mod tests {
     fn families_fill_a_size_and_are_judged_alike() {
         for family in &FAMILIES {
             let samples = (family.make)(16_384);
-            assert_eq!(disagreement(&samples), None, "{}", family.title);
+            let subjects = Subject::ALL.into_iter();
+            let subjects = subjects.filter(|subject| subject.runs_on(&samples));
+            let mut said = subjects.map(|subject| Task::new(subject, &samples).verdicts());
+            let first = said.next().expect("some subject runs");
+            assert!(said.all(|other| other == first), "{}", family.title);
             let longest = samples.iter().map(|sample| sample.file.len()).max();
             let bytes: usize = samples.iter().map(|sample| sample.file.len()).sum();
             assert!(

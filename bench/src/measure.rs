@@ -1,163 +1,202 @@
-//! Medians of interleaved rounds in one process.
+//! Measures one cell: first runs, which must agree, then medians of interleaved rounds.
 
 use crate::clock::thread_time;
 use crate::sample::Sample;
-use differential::decode::decode;
-use differential::validator::validate;
-use qaabireed::layout::{MESSAGE_LENGTH, index_length};
-use std::hint::black_box;
+use crate::tasks::{Subject, Task};
 use std::time::Duration;
+
+/// A task whose first run takes longer is not run again.
+pub const ONCE: Duration = Duration::from_secs(20);
 
 /// The least time of one measurement; shorter work is repeated.
 const LEAST: Duration = Duration::from_millis(1);
 
-/// The time for all rounds of one row, as far as the rounds allow.
-const BUDGET: Duration = Duration::from_secs(4);
+/// The time for all rounds of a cell, as far as the rounds allow.
+const BUDGET: Duration = Duration::from_secs(2);
 
-/// The most rounds of a row, and the fewest while they last under the budget.
+/// The most rounds of a cell, and the fewest while they last under five budgets.
 const MOST_ROUNDS: u32 = 101;
 const FEWEST_ROUNDS: u32 = 5;
 
-/// The times of one family at one size.
-pub struct Measured {
-    pub family: &'static str,
-    pub size: usize,
-    /// The bytes of all files, and how many files they are.
-    pub bytes: usize,
-    pub files: usize,
-    pub rounds: u32,
-    /// The original on its tree; none for damaged files, which have no tree.
-    pub tree: Option<Timed>,
-    /// The original from the bytes: decoding and validating.
-    pub decoded: Timed,
-    /// This check.
-    pub check: Timed,
-}
-
-/// The median of some rounds, and half the distance of the quartiles in hundredths of it.
-#[derive(Clone, Copy)]
+/// The median of some rounds, and half the distance of the quartiles as a share of it.
+#[derive(Debug, Clone, Copy, PartialEq)]
 pub struct Timed {
     pub median: Duration,
     pub spread: f64,
+    /// How many rounds there were; 1 where the first run is all there is.
+    pub rounds: u32,
 }
 
-/// One of the three things that are timed.
-struct Task<'s> {
-    run: Box<dyn FnMut() + 's>,
+impl Timed {
+    /// A first run.
+    pub fn once(time: Duration) -> Self {
+        Timed {
+            median: time,
+            spread: 0.0,
+            rounds: 1,
+        }
+    }
+
+    /// The median and the spread of all rounds.
+    fn of(mut times: Vec<Duration>) -> Self {
+        times.sort();
+        let at = |share: usize| times[(times.len() - 1) * share / 4];
+        let distance = (at(3) - at(1)).as_secs_f64() / 2.0;
+        Timed {
+            median: at(2),
+            spread: distance / at(2).as_secs_f64(),
+            rounds: times.len() as u32,
+        }
+    }
+}
+
+/// A task with its times so far.
+struct Timing<'s> {
+    subject: Subject,
+    task: Task<'s>,
+    first: Duration,
     repetitions: u32,
     times: Vec<Duration>,
 }
 
-impl<'s> Task<'s> {
-    /// The task, with so many repetitions that a measurement is long enough.
-    fn new(mut run: impl FnMut() + 's) -> Self {
-        run();
-        let start = thread_time();
-        run();
-        let once = (thread_time() - start).max(Duration::from_nanos(20));
-        let repetitions = LEAST.as_nanos().div_ceil(once.as_nanos()).max(1);
-        Task {
-            run: Box::new(run),
-            repetitions: repetitions as u32,
-            times: Vec::new(),
-        }
-    }
-
+impl Timing<'_> {
     /// One measurement, and how long it took in all.
     fn measure(&mut self) -> Duration {
         let start = thread_time();
         for _ in 0..self.repetitions {
-            (self.run)();
+            self.task.run();
         }
         let time = thread_time() - start;
         self.times.push(time / self.repetitions);
         time
     }
 
-    /// The median and the spread of all measurements.
-    fn timed(mut self) -> Timed {
-        self.times.sort();
-        let at = |share: usize| self.times[(self.times.len() - 1) * share / 4];
-        let distance = (at(3) - at(1)).as_secs_f64() / 2.0;
-        Timed {
-            median: at(2),
-            spread: 100.0 * distance / at(2).as_secs_f64(),
+    /// Repeats short work so often that a measurement is long enough.
+    fn set_repetitions(&mut self) {
+        if self.first < LEAST {
+            self.measure();
+            let once = self.times.pop().unwrap_or_default();
+            let once = once.max(Duration::from_nanos(20));
+            self.repetitions = LEAST.as_nanos().div_ceil(once.as_nanos()).max(1) as u32;
+        }
+    }
+
+    /// What came out.
+    fn timed(self) -> (Subject, Timed) {
+        match self.times.is_empty() {
+            true => (self.subject, Timed::once(self.first)),
+            false => (self.subject, Timed::of(self.times)),
         }
     }
 }
 
-/// Measures the three tasks on some samples, one after the other in each round.
-pub fn measure(family: &'static str, size: usize, samples: &[Sample]) -> Measured {
-    let mut tasks = vec![check_task(samples), decoded_task(samples)];
-    if samples.iter().all(|sample| sample.story.is_some()) {
-        tasks.push(tree_task(samples));
+/// Measures all subjects on some samples. Each time is told as soon as it is known: first runs at
+/// once, medians at the end. Verdicts that differ are an error.
+pub fn measure(samples: &[Sample], mut tell: impl FnMut(Subject, Timed)) -> Result<(), String> {
+    let mut timings = Vec::new();
+    let mut verdicts: Option<Vec<String>> = None;
+    for subject in Subject::ALL.into_iter().filter(|s| s.runs_on(samples)) {
+        let mut task = Task::new(subject, samples);
+        let start = thread_time();
+        let said = task.verdicts();
+        let first = thread_time() - start;
+        tell(subject, Timed::once(first));
+        agree(verdicts.get_or_insert(said.clone()), &said)?;
+        timings.push(Timing {
+            subject,
+            task,
+            first,
+            repetitions: 1,
+            times: Vec::new(),
+        });
     }
-    let rounds = rounds(&mut tasks);
-    let mut times = tasks.into_iter().map(Task::timed);
-    Measured {
-        family,
-        size,
-        bytes: samples.iter().map(|sample| sample.file.len()).sum(),
-        files: samples.len(),
-        rounds,
-        check: times.next().expect("the check is measured"),
-        decoded: times.next().expect("the original is measured"),
-        tree: times.next(),
+    run_rounds(&mut timings);
+    for (subject, timed) in timings.into_iter().map(Timing::timed) {
+        tell(subject, timed);
+    }
+    Ok(())
+}
+
+/// The first verdict that differs is an error.
+fn agree(original: &[String], other: &[String]) -> Result<(), String> {
+    match original.iter().zip(other).find(|(one, two)| one != two) {
+        Some((one, two)) => Err(format!("\"{one}\" and \"{two}\"")),
+        None => Ok(()),
     }
 }
 
-/// Runs rounds until the budget or the most rounds are reached, but not fewer than the fewest
-/// unless a single round is over the budget; each round starts with another task.
-fn rounds(tasks: &mut [Task]) -> u32 {
+/// Runs rounds of all tasks whose first run was short enough, until the budget or the most rounds
+/// are reached; each round starts with another task.
+fn run_rounds(timings: &mut [Timing]) {
+    let mut repeated: Vec<&mut Timing> = timings.iter_mut().filter(|t| t.first <= ONCE).collect();
+    repeated.iter_mut().for_each(|one| one.set_repetitions());
     let mut spent = Duration::ZERO;
-    let mut done: u32 = 0;
-    while done < MOST_ROUNDS {
-        for turn in 0..tasks.len() {
-            let number = (turn + done as usize) % tasks.len();
-            spent += tasks[number].measure();
+    for done in 1..=MOST_ROUNDS {
+        for turn in 0..repeated.len() {
+            let number = (turn + done as usize) % repeated.len();
+            spent += repeated[number].measure();
         }
-        done += 1;
         let enough = done >= FEWEST_ROUNDS || spent >= BUDGET * FEWEST_ROUNDS;
         if spent >= BUDGET && enough {
             break;
         }
     }
-    done
 }
 
-/// The original on its trees.
-fn tree_task(samples: &[Sample]) -> Task<'_> {
-    let stories: Vec<_> = samples
-        .iter()
-        .filter_map(|one| one.story.as_ref())
-        .collect();
-    Task::new(move || {
-        for story in &stories {
-            let _ = black_box(validate(black_box(story)));
-        }
-    })
-}
+#[cfg(test)]
+mod tests {
+    use super::*;
+    use differential::story::{divert, story};
 
-/// The original from the bytes: the tree is decoded, validated and dropped.
-fn decoded_task(samples: &[Sample]) -> Task<'_> {
-    Task::new(move || {
-        for sample in samples {
-            if let Ok(decoded) = black_box(decode(black_box(&sample.file))) {
-                let _ = black_box(validate(&decoded.story));
-            }
-        }
-    })
-}
+    #[test]
+    fn medians_and_spreads_are_those_of_the_rounds() {
+        let times = [5, 1, 2, 4, 3].map(Duration::from_millis).to_vec();
+        let timed = Timed::of(times);
+        assert_eq!(timed.median, Duration::from_millis(3));
+        assert_eq!((timed.spread * 300.0).round(), 100.0);
+        assert_eq!(timed.rounds, 5);
+    }
 
-/// This check, with buffers that are lent again and again and never cleared.
-fn check_task(samples: &[Sample]) -> Task<'_> {
-    let longest = samples.iter().map(|sample| sample.file.len()).max();
-    let mut index = vec![0; index_length(longest.unwrap_or(0))];
-    let mut message = [0; MESSAGE_LENGTH];
-    Task::new(move || {
-        for sample in samples {
-            let file = black_box(&sample.file);
-            let _ = black_box(qaabireed::check(file, &mut index, &mut message));
-        }
-    })
+    #[test]
+    fn every_subject_is_told_first_and_at_the_end() {
+        let samples = [Sample::of(story(vec![divert("END")], vec![]))];
+        let mut told = Vec::new();
+        measure(&samples, |subject, timed| {
+            told.push((subject, timed.rounds))
+        })
+        .unwrap();
+        let subjects: Vec<Subject> = told.iter().map(|(subject, _)| *subject).collect();
+        assert_eq!(subjects, [Subject::ALL, Subject::ALL].concat());
+        assert!(told[..3].iter().all(|(_, rounds)| *rounds == 1));
+        assert!(told[3..].iter().all(|(_, rounds)| *rounds >= FEWEST_ROUNDS));
+    }
+
+    #[test]
+    fn what_takes_too_long_is_not_run_again() {
+        let samples = [Sample::of(story(vec![divert("END")], vec![]))];
+        let timing = |first: Duration| Timing {
+            subject: Subject::Check,
+            task: Task::new(Subject::Check, &samples),
+            first,
+            repetitions: 1,
+            times: Vec::new(),
+        };
+        let slow = ONCE + Duration::from_nanos(1);
+        let mut timings = [timing(slow), timing(ONCE)];
+        run_rounds(&mut timings);
+        let [(_, slow_timed), (_, timed)] = timings.map(Timing::timed);
+        assert_eq!(slow_timed, Timed::once(slow));
+        assert_eq!(timed.rounds, MOST_ROUNDS);
+    }
+
+    #[test]
+    fn verdicts_that_differ_are_an_error() {
+        let mut sample = Sample::of(story(vec![divert("END")], vec![]));
+        sample.story = Some(story(vec![divert("nowhere")], vec![]));
+        let line = measure(&[sample], |_, _| {}).unwrap_err();
+        assert!(
+            line.contains("accepted") && line.contains("nowhere"),
+            "{line}"
+        );
+    }
 }

@@ -7,7 +7,7 @@ use std::process::{Command, Stdio};
 /// The archive's file name.
 const ARCHIVE: &str = "libqaabireed.a";
 
-/// The repository's root, from this folder.
+/// The repository's root, from this folder; a relative folder is taken from there.
 const ROOT: &str = "../..";
 
 /// Links the archive, or fails with one readable line.
@@ -27,10 +27,10 @@ fn main() {
 
 /// The folder of the archive: the given one, else the repository's, where it is built if absent.
 fn archive_folder() -> Result<PathBuf, String> {
-    if let Some(given) = std::env::var_os("QAABIREED_LIB_DIR") {
-        let folder = PathBuf::from(given);
-        let shown = folder.display().to_string();
-        return with_archive(folder)
+    let given = std::env::var_os("QAABIREED_LIB_DIR");
+    if let Some(given) = given.filter(|given| !given.is_empty()) {
+        let shown = given.display();
+        return with_archive(Path::new(ROOT).join(&given))
             .ok_or(format!("QAABIREED_LIB_DIR has no {ARCHIVE} in it: {shown}"));
     }
     let built = Path::new(ROOT).join("target/staticlib");

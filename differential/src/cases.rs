@@ -8,9 +8,10 @@ use crate::generate::{WILD, renamed, sound, wild};
 use crate::layout::TRAILER;
 use crate::limits;
 use crate::random::Random;
-use crate::second::MESSAGE;
+use crate::second::{self, MESSAGE};
 
 /// One input of every implementation that is compared.
+#[derive(Debug, Clone)]
 pub struct Case {
     pub file: Vec<u8>,
     /// The story that was encoded, where the file is not damaged.
@@ -21,6 +22,16 @@ pub struct Case {
     pub message: usize,
     /// The targets to look up.
     pub targets: Vec<String>,
+    /// More targets for a subject that looks up: spellings of the index and what lies beside them.
+    pub beside: Vec<Vec<u8>>,
+}
+
+impl Case {
+    /// All targets as bytes.
+    pub fn all_targets(&self) -> impl Iterator<Item = &[u8]> {
+        let words = self.targets.iter().map(String::as_bytes);
+        words.chain(self.beside.iter().map(Vec::as_slice))
+    }
 }
 
 /// A file of more bytes than this comes once in so many limit cases.
@@ -48,12 +59,14 @@ pub fn case(seed: u64, number: u64) -> Case {
     };
     let (index, message) = lent(random, file.len());
     let targets = targets(random, story.as_ref());
+    let beside = beside(random, &file);
     Case {
         file,
         story,
         index,
         message,
         targets,
+        beside,
     }
 }
 
@@ -117,4 +130,27 @@ fn targets(random: &mut Random, story: Option<&ParsedStory>) -> Vec<String> {
     }
     targets.truncate(4);
     targets
+}
+
+/// A target longer than any name; the spelling of an entry, its end, and bytes that are one off.
+fn beside(random: &mut Random, file: &[u8]) -> Vec<Vec<u8>> {
+    let mut beside = vec![vec![b'n'; 256 + random.below(745)]];
+    let enough = 3 * file.len().saturating_sub(TRAILER);
+    let entries = second::entries(file, enough).unwrap_or_default();
+    if entries.is_empty() {
+        return beside;
+    }
+    let spelling = second::spelling(file, random.pick(&entries));
+    let dot = spelling.iter().position(|byte| *byte == b'.');
+    let mut other = spelling.clone();
+    if let Some(last) = other.last_mut() {
+        *last ^= 0x80;
+    }
+    beside.push(spelling[dot.map_or(0, |dot| dot + 1)..].to_vec());
+    beside.push(spelling[..spelling.len().saturating_sub(1)].to_vec());
+    beside.push([b".", &spelling[..]].concat());
+    beside.push([&spelling[..], b"."].concat());
+    beside.push(other);
+    beside.push(spelling);
+    beside
 }

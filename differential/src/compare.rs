@@ -15,6 +15,18 @@ pub struct Outcome {
     /// Whether the original gave the verdict too.
     pub judged: bool,
     pub lookups: Vec<Lookup>,
+    /// What the subject's lookups found.
+    pub found: Vec<FoundTarget>,
+    /// Every difference, as a line.
+    pub differences: Vec<String>,
+}
+
+/// What the comparisons of one case with buffers of several lengths saw.
+#[derive(Default)]
+pub struct Lent {
+    pub checks: u64,
+    /// What the lookups found.
+    pub found: Vec<FoundTarget>,
     /// Every difference, as a line.
     pub differences: Vec<String>,
 }
@@ -25,13 +37,7 @@ const OLD_BYTE: u8 = 0xA5;
 
 /// Compares everything that can be compared on one case.
 pub fn compare(case: &Case, subject: Option<&mut dyn Subject>) -> Outcome {
-    let answer = second::check(&case.file, case.index, case.message);
-    let mut outcome = Outcome {
-        answer,
-        judged: false,
-        lookups: Vec::new(),
-        differences: Vec::new(),
-    };
+    let mut outcome = Outcome::of(case);
     match decode(&case.file) {
         Err(refusal) => outcome.expect_refusal(refusal),
         Ok(decoded) => outcome.compare_readable(case, &decoded),
@@ -44,7 +50,7 @@ pub fn compare(case: &Case, subject: Option<&mut dyn Subject>) -> Outcome {
 }
 
 /// The subject against the second implementation, with buffers just long enough, one short and longer.
-pub fn compare_lent(case: &Case, subject: &mut dyn Subject) -> Vec<String> {
+pub fn compare_lent(case: &Case, subject: &mut dyn Subject) -> Lent {
     let enough = 3 * case.file.len().saturating_sub(TRAILER);
     let lengths = [
         (enough, MESSAGE),
@@ -52,30 +58,43 @@ pub fn compare_lent(case: &Case, subject: &mut dyn Subject) -> Vec<String> {
         (enough, MESSAGE - 1),
         (enough + 4, MESSAGE + 9),
     ];
-    let differences = lengths.map(|(index, message)| {
-        let lent = Case {
-            file: case.file.clone(),
-            story: None,
-            index,
-            message,
-            targets: case.targets.clone(),
-        };
-        let mut outcome = Outcome {
-            answer: second::check(&lent.file, index, message),
-            judged: false,
-            lookups: Vec::new(),
-            differences: Vec::new(),
-        };
-        outcome.compare_subject(&lent, subject);
-        outcome.compare_subject_lookups(&lent, subject);
-        let place = format!("lent {index} and {message}: ");
+    let mut lent = Lent::default();
+    for (index, message) in lengths {
+        let mut case = case.clone();
+        (case.index, case.message) = (index, message);
+        let mut outcome = Outcome::of(&case);
+        outcome.compare_subject(&case, subject);
+        if message >= MESSAGE {
+            outcome.compare_subject_lookups(&case, subject);
+        }
+        lent.take(outcome, &format!("lent {index} and {message}: "));
+    }
+    lent
+}
+
+impl Lent {
+    /// Takes the outcome with buffers of some lengths in.
+    fn take(&mut self, outcome: Outcome, lengths: &str) {
+        self.checks += 1;
+        self.found.extend(outcome.found);
         let lines = outcome.differences.into_iter();
-        lines.map(|line| place.clone() + &line).collect::<Vec<_>>()
-    });
-    differences.concat()
+        self.differences
+            .extend(lines.map(|line| lengths.to_string() + &line));
+    }
 }
 
 impl Outcome {
+    /// What the second implementation answers, before anything is compared.
+    fn of(case: &Case) -> Self {
+        Outcome {
+            answer: second::check(&case.file, case.index, case.message),
+            judged: false,
+            lookups: Vec::new(),
+            found: Vec::new(),
+            differences: Vec::new(),
+        }
+    }
+
     /// Notes a difference.
     fn differ(&mut self, what: &str, expected: impl std::fmt::Debug, got: impl std::fmt::Debug) {
         let line = format!("{what}: expected {expected:?}, got {got:?}");
@@ -245,16 +264,20 @@ impl Outcome {
 
     /// The subject's lookups, where it has them.
     fn compare_subject_lookups(&mut self, case: &Case, subject: &mut dyn Subject) {
-        for target in &case.targets {
-            let expected = second::lookup(&case.file, case.index, target.as_bytes());
+        for target in case.all_targets() {
+            let expected = second::lookup(&case.file, case.index, target);
             let mut index = vec![OLD_NUMBER; case.index];
-            match subject.lookup(&case.file, &mut index, target.as_bytes()) {
+            match subject.lookup(&case.file, &mut index, target) {
                 Err(error) => self.differ("subject", "a lookup", error),
-                Ok(Some(found)) if !allowed(&expected, &found) => {
-                    self.differ(&format!("lookup of {target:?}"), expected, found);
-                }
                 Ok(None) => return,
-                Ok(Some(_)) => self.compare_lookup_index(case, &index),
+                Ok(Some(found)) => {
+                    if !allowed(&expected, &found) {
+                        let what = format!("lookup of {}", target.escape_ascii());
+                        self.differ(&what, expected, &found);
+                    }
+                    self.compare_lookup_index(case, &index);
+                    self.found.push(found);
+                }
             }
         }
     }

@@ -19,12 +19,17 @@ fn main() -> ExitCode {
             _ => usage(),
         },
         ["check"] => check(),
-        ["list"] => {
-            print!("{}", vectors::text());
-            ExitCode::SUCCESS
-        }
+        ["list"] => put(vectors::text().as_bytes()),
         ["stored", program, folder] => write_stored(program, folder),
         _ => usage(),
+    }
+}
+
+/// Writes to standard output; a reader that went away is a failure, and no more than that.
+fn put(text: &[u8]) -> ExitCode {
+    match std::io::stdout().write_all(text) {
+        Ok(()) => ExitCode::SUCCESS,
+        Err(_) => ExitCode::FAILURE,
     }
 }
 
@@ -43,8 +48,9 @@ fn write_stored(program: &str, folder: &str) -> ExitCode {
         return ExitCode::from(2);
     };
     let folder = std::path::Path::new(folder);
-    for (name, bytes) in [("stdin", files.input), ("stdout", files.output)] {
-        if let Err(error) = std::fs::write(folder.join(name), bytes) {
+    for (name, bytes) in [("stdin", Some(files.input)), ("stdout", files.output)] {
+        let written = bytes.map(|bytes| std::fs::write(folder.join(name), bytes));
+        if let Some(Err(error)) = written {
             eprintln!("{}: {error}", folder.join(name).display());
             return ExitCode::FAILURE;
         }
@@ -59,11 +65,7 @@ fn check() -> ExitCode {
         eprintln!("{error}");
         return ExitCode::FAILURE;
     }
-    let line = [&second::program_line(&input), &b"\n"[..]].concat();
-    match std::io::stdout().write_all(&line) {
-        Ok(()) => ExitCode::SUCCESS,
-        Err(_) => ExitCode::FAILURE,
-    }
+    put(&[&second::program_line(&input), &b"\n"[..]].concat())
 }
 
 /// The library, where the build has linked it.
@@ -83,31 +85,29 @@ fn run(count: u64, seed: u64) -> ExitCode {
             return ExitCode::from(2);
         }
     };
-    match &program {
-        Some(program) => println!("subject: {}", program.title()),
-        None => println!(
-            "subject: none (no INK_CHECK, no program built); the original is compared with the second implementation only"
-        ),
-    }
     let mut library = library();
-    match &library {
-        Some(library) => println!("library: {}", library.title()),
-        None => println!("library: none (built without QAABIREED_LIB_DIR)"),
-    }
+    let program_title = program.as_ref().map(Subject::title);
+    let program_title =
+        program_title.unwrap_or("none (no INK_CHECK, no program built)".to_string());
+    let library_title = library.as_ref().map(|library| library.title());
+    let library_title =
+        library_title.unwrap_or("none (no QAABIREED_LIB_DIR, no archive built)".to_string());
+    put(format!("program: {program_title}\nlibrary: {library_title}\n").as_bytes());
     let mut tally = Tally::default();
     for number in 0..count {
         let case = case(seed, number);
         let subject = program.as_mut().map(|program| program as &mut dyn Subject);
         let mut outcome = compare(&case, subject);
         if let Some(library) = &mut library {
-            let differences = compare_lent(&case, library.as_mut());
-            outcome.differences.extend(differences);
+            let lent = compare_lent(&case, library.as_mut());
+            tally.count_lent(&lent);
+            outcome.differences.extend(lent.differences);
         }
         tally.count(number, &case.file, &outcome);
     }
-    println!("{}", tally.report());
+    let written = put((tally.report() + "\n").as_bytes());
     match tally.good() {
-        true => ExitCode::SUCCESS,
+        true => written,
         false => ExitCode::FAILURE,
     }
 }

@@ -1,5 +1,6 @@
-//! The stored input and output of the programs that run under the gate: `reader_runs` and `vectors`.
+//! The stored input and output of the programs that run under the gate: `reader_runs`, `vectors` and `lookup_runs`.
 
+pub mod lookups;
 pub mod reader;
 pub mod replay;
 pub mod whole;
@@ -8,14 +9,22 @@ pub mod whole;
 #[derive(Debug, Clone, Default, PartialEq, Eq)]
 pub struct Stored {
     pub input: Vec<u8>,
-    pub output: Vec<u8>,
+    /// None where the program also writes about stories that it builds itself.
+    pub output: Option<Vec<u8>>,
 }
+
+/// The programs that have stored files.
+pub const PROGRAMS: [&str; 3] = ["reader_runs", "vectors", "lookup_runs"];
+
+/// The stored list.
+const LIST: &str = include_str!("../vectors.txt");
 
 /// The files of a program, or nothing where no program has this name.
 pub fn stored(program: &str) -> Option<Stored> {
     match program {
         "reader_runs" => Some(reader::stored()),
-        "vectors" => Some(replay::stored(include_str!("../vectors.txt"))),
+        "vectors" => Some(replay::stored(LIST)),
+        "lookup_runs" => Some(lookups::stored(LIST)),
         _ => None,
     }
 }

@@ -92,7 +92,7 @@ impl Program {
 impl Subject for Program {
     /// The program's path as given.
     fn title(&self) -> String {
-        format!("program {}", self.path.display())
+        self.path.display().to_string()
     }
 
     /// Runs the program once; it has its own buffers.

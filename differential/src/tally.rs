@@ -1,8 +1,9 @@
 //! Counts what a run met and says whether the run is good.
 
 use crate::aimed::PAIRS;
-use crate::compare::Outcome;
+use crate::compare::{Lent, Outcome};
 use crate::second::{Answer, Lookup};
+use crate::subject::FoundTarget;
 use std::collections::BTreeMap;
 
 /// How many differences are shown.
@@ -21,6 +22,9 @@ pub struct Tally {
     pairs: BTreeMap<(u8, u8), u64>,
     refusals: BTreeMap<u8, u64>,
     lookups: BTreeMap<&'static str, u64>,
+    /// The calls of the library; none where there is no library.
+    checks: u64,
+    found: BTreeMap<&'static str, u64>,
     shown: Vec<String>,
 }
 
@@ -44,6 +48,14 @@ impl Tally {
         match outcome.differences.is_empty() {
             true => self.passed += 1,
             false => self.fail(number, file, &outcome.differences),
+        }
+    }
+
+    /// Counts the library's calls on one case; their differences are the case's.
+    pub fn count_lent(&mut self, lent: &Lent) {
+        self.checks += lent.checks;
+        for found in &lent.found {
+            add(&mut self.found, found_title(found));
         }
     }
 
@@ -73,6 +85,12 @@ impl Tally {
         absent.extend(pairs.map(|(rule, step)| format!("rule {rule} in step {step}")));
         let refusals = (1..=8).filter(|refusal| !self.refusals.contains_key(refusal));
         absent.extend(refusals.map(|refusal| format!("refusal {refusal}")));
+        if self.checks > 0 {
+            let found = FOUND
+                .iter()
+                .filter(|title| !self.found.contains_key(*title));
+            absent.extend(found.map(|title| format!("the library's lookup: {title}")));
+        }
         absent
     }
 
@@ -90,10 +108,12 @@ impl Tally {
         for (refusal, count) in &self.refusals {
             lines.push(format!("refusal {refusal}: {count}"));
         }
-        let lookups = self.lookups.iter().map(|(k, count)| format!("{k} {count}"));
-        let lookups: Vec<String> = lookups.collect();
-        lines.push(format!("lookups: {}", lookups.join(", ")));
+        lines.push(format!("lookups: {}", listed(&self.lookups)));
         lines.push(format!("judged by the original: {}", self.judged));
+        if self.checks > 0 {
+            lines.push(format!("checks of the library: {}", self.checks));
+            lines.push(format!("lookups of the library: {}", listed(&self.found)));
+        }
         lines.extend(self.shown.iter().map(|one| format!("difference in {one}")));
         let absent = self.absent();
         if !absent.is_empty() {
@@ -114,6 +134,12 @@ impl Tally {
     }
 }
 
+/// Counts with their keys, in one line.
+fn listed(counts: &BTreeMap<&'static str, u64>) -> String {
+    let counts = counts.iter().map(|(key, count)| format!("{key} {count}"));
+    counts.collect::<Vec<_>>().join(", ")
+}
+
 /// Adds one to a count.
 fn add<K: Ord>(counts: &mut BTreeMap<K, u64>, key: K) {
     *counts.entry(key).or_default() += 1;
@@ -128,6 +154,39 @@ pub fn title(lookup: &Lookup) -> &'static str {
         Lookup::Exact(_) => "exact",
         Lookup::Ending(_) => "ending",
         Lookup::Missing => "missing",
+    }
+}
+
+/// The names of everything that a library's lookup answers.
+const FOUND: [&str; 13] = [
+    "pass",
+    "function",
+    "reserved",
+    "exact",
+    "ending",
+    "missing",
+    "refused 1",
+    "refused 2",
+    "refused 3",
+    "refused 4",
+    "refused 5",
+    "refused 6",
+    "refused 7",
+];
+
+/// The name of what a library's lookup answers.
+fn found_title(found: &FoundTarget) -> &'static str {
+    match found {
+        FoundTarget::Pass => FOUND[0],
+        FoundTarget::Function => FOUND[1],
+        FoundTarget::Reserved => FOUND[2],
+        FoundTarget::Exact(_) => FOUND[3],
+        FoundTarget::Ending(_) => FOUND[4],
+        FoundTarget::Missing => FOUND[5],
+        FoundTarget::Refused(number) => {
+            let place = 5 + usize::from(*number);
+            FOUND.get(place).copied().unwrap_or("another refusal")
+        }
     }
 }
 

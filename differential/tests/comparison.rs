@@ -10,10 +10,13 @@ use std::io::Result;
 /// A change to what a right subject answers.
 type Fault = fn(&mut Returned, &mut [u32], &mut [u8]);
 
+/// A change to what a right subject's lookup answers, given the index that it leaves.
+type LookupFault = fn(FoundTarget, &mut [u32]) -> FoundTarget;
+
 /// A library that answers as the second implementation does, but for one fault.
 struct Library {
     fault: Fault,
-    found: fn(FoundTarget) -> FoundTarget,
+    look_up: LookupFault,
 }
 
 impl Subject for Library {
@@ -52,7 +55,7 @@ impl Subject for Library {
             Ok(Lookup::Ending(entries)) => FoundTarget::Ending(*entries.last().unwrap()),
             Ok(Lookup::Missing) => FoundTarget::Missing,
         };
-        Ok(Some((self.found)(found)))
+        Ok(Some((self.look_up)(found, index)))
     }
 }
 
@@ -69,7 +72,7 @@ fn differing(mut subject: Library) -> usize {
 fn differing_check(fault: Fault) -> usize {
     differing(Library {
         fault,
-        found: |found| found,
+        look_up: |found, _| found,
     })
 }
 
@@ -138,7 +141,7 @@ fn wrong_numbers_and_buffers_are_caught() {
 fn a_lookup_that_never_finds_is_caught() {
     let caught = differing(Library {
         fault: |_, _, _| {},
-        found: |found| match found {
+        look_up: |found, _| match found {
             FoundTarget::Exact(_) | FoundTarget::Ending(_) => FoundTarget::Missing,
             other => other,
         },
@@ -147,30 +150,55 @@ fn a_lookup_that_never_finds_is_caught() {
 }
 
 /// How many of some cases differ for a fault, with buffers exact, short and longer.
-fn differing_lent(fault: Fault) -> usize {
-    let mut subject = Library {
-        fault,
-        found: |found| found,
+fn differing_lent(fault: Fault, look_up: LookupFault) -> usize {
+    let mut subject = Library { fault, look_up };
+    let differs = |number: &u64| {
+        let lent = compare_lent(&case(3, *number), &mut subject);
+        !lent.differences.is_empty()
     };
-    let differs = |number: &u64| !compare_lent(&case(3, *number), &mut subject).is_empty();
     (0..100).filter(differs).count()
 }
 
 #[test]
 fn faults_that_only_longer_or_short_buffers_show_are_caught() {
-    assert_eq!(differing_lent(|_, _, _| {}), 0);
-    let longer = differing_lent(|_, index, message| {
+    let right: LookupFault = |found, _| found;
+    assert_eq!(differing_lent(|_, _, _| {}, right), 0);
+    let longer: Fault = |_, index, message| {
         if message.len() > 640 {
             *index.last_mut().unwrap() = 0;
         }
-    });
-    assert_eq!(longer, 100);
-    let short = differing_lent(|_, _, message| {
+    };
+    assert_eq!(differing_lent(longer, right), 100);
+    let short: Fault = |_, _, message| {
         if message.len() == 639 {
             message[638] = 0;
         }
-    });
-    assert_eq!(short, 100);
+    };
+    assert_eq!(differing_lent(short, right), 100);
+}
+
+#[test]
+fn lookups_that_only_longer_or_short_buffers_show_wrong_are_caught() {
+    let right: Fault = |_, _, _| {};
+    let longer: LookupFault = |found, index| {
+        if index.len() % 3 == 1 {
+            *index.last_mut().unwrap() = 0;
+        }
+        found
+    };
+    assert_eq!(differing_lent(right, longer), 100);
+    let unread: LookupFault = |found, _| match found {
+        FoundTarget::Refused(7) => FoundTarget::Missing,
+        other => other,
+    };
+    let caught = differing_lent(right, unread);
+    assert!(caught > 50, "{caught}");
+    let other_entry: LookupFault = |found, _| match found {
+        FoundTarget::Ending(entry) => FoundTarget::Ending(entry + 1),
+        other => other,
+    };
+    let caught = differing_lent(right, other_entry);
+    assert!(caught > 30, "{caught}");
 }
 
 #[test]
@@ -190,6 +218,7 @@ fn a_program_that_prints_another_line_is_caught() {
         index: 0,
         message: 640,
         targets: vec![],
+        beside: vec![],
     };
     let differences = |line| compare(&empty, Some(&mut Printer(line))).differences.len();
     assert_eq!(differences(b"accepted\n"), 0);
@@ -210,6 +239,30 @@ fn a_run_is_good_only_when_everything_occurred() {
     };
     assert!(!count(0, 100));
     assert!(count(100, 2000));
+}
+
+#[test]
+fn a_run_with_a_library_is_good_only_when_its_lookups_gave_every_answer() {
+    let good = |look_up: LookupFault| {
+        let mut subject = Library {
+            fault: |_, _, _| {},
+            look_up,
+        };
+        let mut tally = Tally::default();
+        for number in 0..2000 {
+            let case = case(4, number);
+            tally.count(number, &case.file, &compare(&case, None));
+            if number < 400 {
+                tally.count_lent(&compare_lent(&case, &mut subject));
+            }
+        }
+        tally.good()
+    };
+    assert!(good(|found, _| found));
+    assert!(!good(|found, _| match found {
+        FoundTarget::Refused(6) => FoundTarget::Refused(5),
+        other => other,
+    }));
 }
 
 #[test]

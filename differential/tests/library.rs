@@ -12,7 +12,7 @@ fn the_library_agrees_with_buffers_exact_short_and_longer() {
     for number in 0..800 {
         let case = case(5, number);
         let mut differences = compare(&case, Some(&mut library)).differences;
-        differences.extend(compare_lent(&case, &mut library));
+        differences.extend(compare_lent(&case, &mut library).differences);
         assert_eq!(differences, Vec::<String>::new(), "story {number}");
     }
 }

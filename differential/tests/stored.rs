@@ -2,14 +2,22 @@
 
 use differential::ast::{Condition, Expression, Node};
 use differential::encode::encode;
-use differential::second;
+use differential::second::{self, Lookup};
 use differential::stored::{self, reader, replay, whole};
 use differential::story::{nodes_mut, output, story};
+use differential::tally::title;
 use differential::vectors;
 use std::collections::BTreeSet;
 
-/// The bytes for standard input that `reader_runs` lends itself.
-const READER_BUFFER: usize = 524_288;
+/// The bytes for standard input that each program lends itself.
+const INPUT_BUFFERS: [(&str, usize); 3] = [
+    ("reader_runs", 524_288),
+    ("vectors", 131_072),
+    ("lookup_runs", 32_768),
+];
+
+/// The bytes for a file and for a target, and the numbers of the index that `lookup_runs` lends itself.
+const LOOKUP_BUFFERS: [usize; 3] = [1024, 1024, 3072];
 
 /// The kind byte of a node.
 fn kind(node: &Node) -> u8 {
@@ -59,14 +67,37 @@ fn every_cut_and_every_refusal_is_among_the_files() {
     assert_eq!(refused, (1..=6).collect());
 }
 
+/// A stored file of a program.
+fn kept(program: &str, name: &str) -> Vec<u8> {
+    let crates = concat!(env!("CARGO_MANIFEST_DIR"), "/../crates");
+    std::fs::read(format!("{crates}/{program}/{name}")).unwrap()
+}
+
 #[test]
-fn the_files_of_the_reader_are_what_the_command_writes() {
-    let files = stored::stored("reader_runs").unwrap();
-    assert!(files.input.len() < READER_BUFFER);
-    let folder = concat!(env!("CARGO_MANIFEST_DIR"), "/../crates/reader_runs");
-    for (name, bytes) in [("stdin", files.input), ("stdout", files.output)] {
-        let kept = std::fs::read(format!("{folder}/{name}")).unwrap();
-        assert!(kept == bytes, "run differential/stored");
+fn the_files_of_every_program_are_what_the_command_writes() {
+    for program in stored::PROGRAMS {
+        let files = stored::stored(program).unwrap();
+        let said = format!("{program}: run differential/stored");
+        assert!(kept(program, "stdin") == files.input, "{said}");
+        if let Some(output) = files.output {
+            assert!(kept(program, "stdout") == output, "{said}");
+        }
+    }
+}
+
+#[test]
+fn the_input_of_every_program_fits_its_buffers() {
+    assert_eq!(INPUT_BUFFERS.map(|(program, _)| program), stored::PROGRAMS);
+    for (program, buffer) in INPUT_BUFFERS {
+        assert!(kept(program, "stdin").len() < buffer, "{program}");
+    }
+    for lookup in vectors::lookups() {
+        let lengths = [lookup.input.len(), lookup.target.len(), lookup.index];
+        let fits = lengths
+            .iter()
+            .zip(LOOKUP_BUFFERS)
+            .all(|(one, most)| *one <= most);
+        assert!(fits, "{}", lookup.name);
     }
 }
 
@@ -83,5 +114,48 @@ fn every_check_of_the_list_is_replayed() {
         let [index, message] = item.lent;
         let answer = second::check(input, index, message);
         assert_eq!(item.lines[0], second::line(&answer));
+    }
+}
+
+/// A lookup's target as `lookup_runs` writes it: short printable text in quotes, of others the length.
+fn shown(target: &[u8]) -> String {
+    let printable = target.iter().all(|byte| (0x20..0x7f).contains(byte));
+    match printable && target.len() <= 32 {
+        true => format!("\"{}\"", String::from_utf8_lossy(target)),
+        false => format!("{} bytes", target.len()),
+    }
+}
+
+/// Whether what `lookup_runs` found is one of the answers that the list allows.
+fn allowed(found: &str, expected: &Result<Lookup, u8>) -> bool {
+    match expected {
+        Err(refusal) => found == format!("refused {refusal}"),
+        Ok(lookup @ (Lookup::Exact(entries) | Lookup::Ending(entries))) => entries
+            .iter()
+            .any(|entry| found == format!("{} {entry}", title(lookup))),
+        Ok(lookup) => found == title(lookup),
+    }
+}
+
+#[test]
+fn every_lookup_of_the_list_is_answered_as_the_list_allows() {
+    let output = String::from_utf8(kept("lookup_runs", "stdout")).unwrap();
+    let lookups = vectors::lookups();
+    let listed: Vec<&str> = output.lines().filter(|l| l.contains(", listed ")).collect();
+    assert_eq!(listed.len(), lookups.len());
+    for (line, lookup) in listed.into_iter().zip(lookups) {
+        let (name, rest) = line.split_once(", listed ").unwrap();
+        assert_eq!(name, lookup.name);
+        let target = format!(": {}: ", shown(&lookup.target));
+        let (_, answer) = rest.split_once(&target).expect(line);
+        let (found, numbers) = answer.split_once(", index ").expect(line);
+        assert!(allowed(found, &lookup.expected), "{line}");
+        let entries = second::entries(&lookup.input, lookup.index).unwrap_or_default();
+        let start = format!("{} filled with ", lookup.index);
+        let end = format!(", entries {}, rest kept", entries.len());
+        assert!(
+            numbers.starts_with(&start) && numbers.ends_with(&end),
+            "{line}"
+        );
     }
 }

@@ -289,11 +289,9 @@ impl Reader<'_> {
     fn flow(&mut self, span: &mut Span) -> Read<Flow> {
         let start = span.at;
         let mut part = self.sized(span)?;
-        let piece = self.note(Sort::Flow, "knot", start, part.end);
+        let piece = self.note(Sort::Flow, "flow", start, part.end);
         let is_function = self.flag(&mut part)?;
-        if is_function {
-            self.pieces[piece].title = "function";
-        }
+        self.pieces[piece].title = if is_function { "function" } else { "knot" };
         self.inside(|r| {
             Ok(Flow {
                 is_function,

@@ -2,104 +2,15 @@
 
 #![cfg(unix)]
 
+mod command;
+
+use command::{Folder, accepted, broken, program, ran, run};
 use qaabireed::layout::LONGEST_FILE;
 use qaabireed::{Choice, Expression, Flow, Node, Stitch, Story};
 use std::ffi::OsStr;
-use std::fs::{create_dir_all, remove_dir_all, write};
-use std::io::Write;
+use std::fs::write;
 use std::os::unix::ffi::OsStrExt;
-use std::path::{Path, PathBuf};
-use std::process::{Command, Output, Stdio};
-use std::sync::atomic::{AtomicU32, Ordering};
-
-/// A folder of its own for a test, removed at its end.
-struct Folder(PathBuf);
-
-impl Folder {
-    /// An empty folder.
-    fn new() -> Self {
-        static NUMBER: AtomicU32 = AtomicU32::new(0);
-        let number = NUMBER.fetch_add(1, Ordering::Relaxed);
-        let name = format!("ink-check-{}-{number}", std::process::id());
-        let path = std::env::temp_dir().join(name);
-        create_dir_all(&path).unwrap();
-        Folder(path)
-    }
-
-    /// The folder with these files in it.
-    fn with(files: &[(&str, Vec<u8>)]) -> Self {
-        let folder = Folder::new();
-        for (name, bytes) in files {
-            let path = folder.0.join(name);
-            create_dir_all(path.parent().unwrap()).unwrap();
-            write(path, bytes).unwrap();
-        }
-        folder
-    }
-
-    /// Runs the program in the folder.
-    fn run(&self, arguments: &[&str]) -> Ran {
-        run(&self.0, arguments, b"")
-    }
-}
-
-impl Drop for Folder {
-    fn drop(&mut self) {
-        let _ = remove_dir_all(&self.0);
-    }
-}
-
-/// What a run wrote, and its exit status.
-#[derive(Debug, PartialEq, Eq)]
-struct Ran {
-    output: String,
-    errors: String,
-    status: i32,
-}
-
-impl Ran {
-    /// Holds a run to its output and status; nothing is written to standard error.
-    fn assert(&self, output: &str, status: i32) {
-        assert_eq!((self.output.as_str(), self.status), (output, status));
-        assert_eq!(self.errors, "");
-    }
-}
-
-/// The program in a folder.
-fn program(folder: &Path) -> Command {
-    let mut command = Command::new(env!("CARGO_BIN_EXE_ink-check"));
-    command.current_dir(folder).stdin(Stdio::piped());
-    command.stdout(Stdio::piped()).stderr(Stdio::piped());
-    command
-}
-
-/// Runs the program with some standard input.
-fn run(folder: &Path, arguments: &[&str], input: &[u8]) -> Ran {
-    let mut process = program(folder).args(arguments).spawn().unwrap();
-    // A program that does not read its input may end before it is written.
-    let _ = process.stdin.take().unwrap().write_all(input);
-    ran(process.wait_with_output().unwrap())
-}
-
-/// A run's output as text.
-fn ran(output: Output) -> Ran {
-    Ran {
-        output: String::from_utf8_lossy(&output.stdout).into_owned(),
-        errors: String::from_utf8_lossy(&output.stderr).into_owned(),
-        status: output.status.code().expect("it ended by itself"),
-    }
-}
-
-/// The file of the empty story.
-fn accepted() -> Vec<u8> {
-    Story::new().encode().unwrap()
-}
-
-/// The file of a root that diverts to a target that is not there.
-fn broken(target: impl Into<qaabireed::Name>) -> Vec<u8> {
-    let divert = Node::divert(target.into());
-    Story::new().node(divert).encode().unwrap()
-}
+use std::path::Path;
 
 /// The file of a knot with a stitch, in which a choice's branch diverts nowhere.
 fn nested() -> Vec<u8> {
@@ -216,18 +127,6 @@ fn standard_input_is_read_where_no_path_or_a_dash_is_given() {
     run(&folder.0, &["good", "-"], &broken("x")).assert(&both, 1);
     let empty = "<stdin>: refused 1: the file is empty, a story file has 20 to 1048576 bytes\n";
     run(&folder.0, &[], b"").assert(empty, 2);
-}
-
-#[test]
-fn paths_from_which_nothing_can_be_had_get_a_line() {
-    let folder = Folder::with(&[("empty.inkb", Vec::new()), ("folder/notes.txt", Vec::new())]);
-    let ran = folder.run(&["empty.inkb", "folder", "nowhere.inkb"]);
-    let lines = "\
-empty.inkb: refused 1: the file is empty, a story file has 20 to 1048576 bytes
-folder: unreadable: the folder has no story file (*.inkb)
-nowhere.inkb: unreadable: No such file or directory (os error 2)
-";
-    ran.assert(lines, 2);
 }
 
 #[test]
@@ -429,16 +328,6 @@ fn a_wrong_command_line_is_said_on_standard_error() {
 }
 
 #[test]
-fn a_reader_that_goes_away_ends_the_run_quietly() {
-    let folder = Folder::with(&[("a.inkb", broken("x".repeat(255).as_str()))]);
-    let arguments = vec!["a.inkb"; 2000];
-    let mut process = program(&folder.0).args(&arguments).spawn().unwrap();
-    drop(process.stdout.take());
-    let ran = ran(process.wait_with_output().unwrap());
-    assert_eq!((ran.errors.as_str(), ran.status), ("", 2));
-}
-
-#[test]
 fn output_that_cannot_be_written_is_said() {
     let folder = Folder::with(&[("a.inkb", accepted())]);
     let full = std::fs::OpenOptions::new().write(true).open("/dev/full");
@@ -456,19 +345,4 @@ fn output_that_cannot_be_written_is_said() {
             .starts_with("ink-check: standard output: No space left")
     );
     assert_eq!(ran.status, 2);
-}
-
-#[test]
-fn many_files_have_no_progress_line_where_there_is_no_terminal() {
-    let names: Vec<String> = (0..50)
-        .map(|number| format!("tales/{number:02}.inkb"))
-        .collect();
-    let files: Vec<_> = names
-        .iter()
-        .map(|name| (name.as_str(), accepted()))
-        .collect();
-    let folder = Folder::with(&files);
-    let ran = folder.run(&["tales"]);
-    assert_eq!(ran.output.lines().count(), 50);
-    assert_eq!((ran.errors.as_str(), ran.status), ("", 0));
 }

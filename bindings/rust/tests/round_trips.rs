@@ -1,9 +1,8 @@
 //! Stories to bytes and back, the worked example of the format, and what has no file.
 
-use qaabireed::layout::{DEEPEST, LONGEST_FILE};
 use qaabireed::{
     Answer, AssignMode, Branch, Call, Choice, Condition, EncodeError, Expression, Flow, Name, Node,
-    Refusal, Stitch, Story, Validator, decode, outline,
+    Stitch, Story, Validator, decode, outline,
 };
 
 /// The worked example of docs/FORMAT.md.
@@ -201,20 +200,6 @@ fn every_changed_byte_is_judged_alike_by_archive_and_decoder() {
     }
 }
 
-/// An output around so many negations of a constant.
-fn negations(count: usize) -> Story {
-    let wrap = |value, _| Expression::negate(value);
-    let value = (0..count).fold(Expression::Constant, wrap);
-    Story::new().node(Node::output(value))
-}
-
-#[test]
-fn the_deepest_story_is_read_and_a_deeper_one_has_no_file() {
-    let file = negations(DEEPEST - 2).encode().unwrap();
-    assert!(Validator::new().check_bytes(&file).is_accepted());
-    assert_eq!(negations(DEEPEST - 1).encode(), Err(EncodeError::TooDeep));
-}
-
 #[test]
 fn names_have_at_most_255_bytes() {
     let longest = "n".repeat(255);
@@ -240,33 +225,6 @@ fn flows_have_at_most_255_parameters() {
         with(256),
         Err(EncodeError::TooManyParameters { flow, count })
     );
-}
-
-#[test]
-fn files_have_at_most_a_mebibyte() {
-    let name = "n".repeat(255);
-    let mut story = Story::new();
-    story.globals = vec![Name::from(&name); 4095];
-    let rest = LONGEST_FILE - story.encode().unwrap().len();
-    let longest = story.clone().global("n".repeat(rest - 1));
-    let file = longest.encode().unwrap();
-    assert_eq!(file.len(), LONGEST_FILE);
-    assert_eq!(
-        Validator::new().check_bytes(&file),
-        Answer::Accepted { entries: 4096 }
-    );
-    let length = LONGEST_FILE + 1;
-    assert_eq!(
-        longest.global("").encode(),
-        Err(EncodeError::FileTooLong { length })
-    );
-}
-
-#[test]
-fn a_file_over_a_mebibyte_is_refused() {
-    let file = vec![0; LONGEST_FILE + 1];
-    let answer = Validator::new().check_bytes(&file);
-    assert_eq!(answer, Answer::Refused(Refusal::Length));
 }
 
 #[test]

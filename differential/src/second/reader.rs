@@ -98,10 +98,10 @@ pub fn read(file: &[u8]) -> Reading<Story<'_>> {
     }
     let part = |from, to| Part { file, at: from, to };
     Ok(Story {
-        globals: part(starts[0], starts[1]).to_end(name)?,
-        externals: part(starts[1], starts[2]).to_end(name)?,
-        root: part(starts[2], starts[3]).to_end(|p| node(p, 1))?,
-        flows: part(starts[3], trailer).to_end(flow)?,
+        globals: part(starts[0], starts[1]).until_end(name)?,
+        externals: part(starts[1], starts[2]).until_end(name)?,
+        root: part(starts[2], starts[3]).until_end(|p| node(p, 1))?,
+        flows: part(starts[3], trailer).until_end(flow)?,
     })
 }
 
@@ -154,7 +154,7 @@ impl<'f> Part<'f> {
     }
 
     /// Pieces until nothing is left.
-    fn to_end<T>(&mut self, piece: impl Fn(&mut Part<'f>) -> Reading<T>) -> Reading<Vec<T>> {
+    fn until_end<T>(&mut self, piece: impl Fn(&mut Part<'f>) -> Reading<T>) -> Reading<Vec<T>> {
         let mut pieces = Vec::new();
         while self.at != self.to {
             pieces.push(piece(self)?);
@@ -198,7 +198,7 @@ fn flow<'f>(part: &mut Part<'f>) -> Reading<Flow<'f>> {
     let mut inside = part.sized()?;
     let is_function = inside.flag()?;
     let own = body(&mut inside)?;
-    let stitches = inside.to_end(stitch)?;
+    let stitches = inside.until_end(stitch)?;
     Ok(Flow {
         place,
         is_function,
@@ -231,7 +231,7 @@ fn body<'f>(part: &mut Part<'f>) -> Reading<Body<'f>> {
 
 /// 32-bit byte length, then nodes.
 fn node_list<'f>(part: &mut Part<'f>, depth: u32) -> Reading<Vec<Node<'f>>> {
-    part.sized()?.to_end(|p| node(p, depth))
+    part.sized()?.until_end(|p| node(p, depth))
 }
 
 /// The header of a record: header fits, payload fits, kind, depth.
@@ -262,8 +262,11 @@ fn node_payload<'f>(kind: u8, part: &mut Part<'f>, depth: u32) -> Reading<What<'
         2 | 12 => What::Value(expression(part, depth)?),
         3 | 4 | 5 | 7 | 16 => What::Named(name(part)?, expressions(part, depth)?),
         8 => conditional(part, depth)?,
-        9 => What::Switch(expression(part, depth)?, part.to_end(|p| branch(p, depth))?),
-        10 => What::Sequence(part.to_end(|p| node_list(p, depth))?),
+        9 => What::Switch(
+            expression(part, depth)?,
+            part.until_end(|p| branch(p, depth))?,
+        ),
+        10 => What::Sequence(part.until_end(|p| node_list(p, depth))?),
         13 => assignment(part, depth)?,
         14 => choice(part, depth)?,
         15 => What::Gather(name(part)?),
@@ -273,7 +276,7 @@ fn node_payload<'f>(kind: u8, part: &mut Part<'f>, depth: u32) -> Reading<What<'
 
 /// Expressions to the end.
 fn expressions<'f>(part: &mut Part<'f>, depth: u32) -> Reading<Vec<Expression<'f>>> {
-    part.to_end(|p| expression(p, depth))
+    part.until_end(|p| expression(p, depth))
 }
 
 /// Condition, list, flag, list if 1.
@@ -312,7 +315,7 @@ fn choice<'f>(part: &mut Part<'f>, depth: u32) -> Reading<What<'f>> {
         true => Some(name(part)?),
         false => None,
     };
-    let conditions = part.sized()?.to_end(|p| condition(p, depth))?;
+    let conditions = part.sized()?.until_end(|p| condition(p, depth))?;
     Ok(What::Choice(label, conditions, node_list(part, depth)?))
 }
 

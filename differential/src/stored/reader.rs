@@ -9,16 +9,20 @@ use crate::vectors;
 
 /// The files with their lines, then the lines of the two longest files, which the program builds itself.
 pub fn stored() -> Stored {
-    let mut stored = Stored::default();
+    let mut input = Vec::new();
+    let mut output = Vec::new();
     for file in files() {
-        stored.input.extend(short(file.len()));
-        stored.input.extend(&file);
-        stored.output.extend(line(&file));
+        input.extend(short(file.len()));
+        input.extend(&file);
+        output.extend(line(&file));
     }
     for length in [LONGEST_FILE, LONGEST_FILE + 1] {
-        stored.output.extend(line(&empty_globals(length)));
+        output.extend(line(&empty_globals(length)));
     }
-    stored
+    Stored {
+        input,
+        output: Some(output),
+    }
 }
 
 /// All files that stand in the input, in order.

@@ -18,20 +18,24 @@ pub struct Item {
 /// In the input a check is three numbers of two bytes (what is lent, and the file's length) and the file.
 /// In the output it is its lines as in the list, a line for the part of the buffers that must stay, and an empty line.
 pub fn stored(list: &str) -> Stored {
-    let mut stored = Stored::default();
+    let mut input = Vec::new();
+    let mut output = Vec::new();
     for item in items(list) {
         let [index, message] = item.lent;
         for number in [index, message, item.input.len()] {
-            stored.input.extend(short(number));
+            input.extend(short(number));
         }
-        stored.input.extend(&item.input);
+        input.extend(&item.input);
         for line in &item.lines {
-            stored.output.extend(line);
-            stored.output.push(b'\n');
+            output.extend(line);
+            output.push(b'\n');
         }
-        stored.output.extend(b"rest kept\n\n");
+        output.extend(b"rest kept\n\n");
     }
-    stored
+    Stored {
+        input,
+        output: Some(output),
+    }
 }
 
 /// The checks of a list, in order.

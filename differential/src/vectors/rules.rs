@@ -256,11 +256,14 @@ pub fn visited_variables() -> Vec<Vector> {
     shelf.vectors
 }
 
+/// Nodes that are made anew for each list.
+type Nodes = fn() -> Vec<Node>;
+
 /// Every list inside a node is gone into by every step.
 pub fn visited_lists() -> Vec<Vector> {
     let mut shelf =
         Shelf::of("01, every step goes into choices, conditionals, switches, sequences");
-    let faults: [(&str, u8, u8, fn() -> Vec<Node>); 6] = [
+    let faults: [(&str, u8, u8, Nodes); 6] = [
         ("temp", 4, 7, || vec![temp("f")]),
         ("target", 2, 8, || vec![divert("x")]),
         ("call", 3, 9, || vec![void_call("k", vec![])]),
@@ -283,7 +286,7 @@ pub fn visited_lists() -> Vec<Vector> {
 }
 
 /// Each kind of list around some nodes; a choice in it leaves.
-fn lists(nodes: fn() -> Vec<Node>) -> Vec<(&'static str, Node)> {
+fn lists(nodes: Nodes) -> Vec<(&'static str, Node)> {
     vec![
         ("choice", choice(None, nodes())),
         ("first-branch", conditional(nodes(), None)),

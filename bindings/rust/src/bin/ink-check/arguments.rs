@@ -18,8 +18,8 @@ One line a file is written:
   PATH: breach R at P: TEXT     the first breach: its rule, its place in the file, its text
   PATH: refused N: REASON       not a story file
   PATH: unreadable: REASON      no such path, no permission, a folder without story files
-PATH is written as it was given. In TEXT, bytes that are not UTF-8 or belong to control
-characters are written \\xNN.
+Control characters are written \\xNN in PATH and TEXT, and so are bytes of TEXT that are not
+UTF-8; else PATH is written as it was given.
 
 options:
   -e, --explain   also say in which knot and stitch the place lies, and the path of records
@@ -30,6 +30,7 @@ options:
   -h, --help      print this
   -V, --version   print the version
   --              what follows is a PATH
+Letters may be joined: -eq is -e -q.
 
 dump prints the structure of one file: the place of each piece, and what it is.
 
@@ -77,16 +78,39 @@ pub fn parse(arguments: impl Iterator<Item = OsString>) -> Result<Command, Strin
             "-" => options.inputs.push(Input::Standard),
             "-h" | "--help" => return Ok(Command::Help),
             "-V" | "--version" => return Ok(Command::Version),
-            "-e" | "--explain" if !dump => options.explain = true,
-            "-j" | "--json" if !dump => options.json = true,
-            "-q" | "--quiet" if !dump => options.quiet = true,
+            _ if !dump && options.set(&given) => {}
             _ if given.starts_with('-') => return Err(unknown(&given, dump)),
             _ => options.inputs.push(Input::Path(argument.into())),
         }
     }
+    let standard = |input: &&Input| **input == Input::Standard;
+    if options.inputs.iter().filter(standard).count() > 1 {
+        return Err("standard input is given twice".to_string());
+    }
     match dump {
         true => dump_of(options.inputs),
         false => Ok(Command::Check(options)),
+    }
+}
+
+impl Options {
+    /// Takes an option in, or some joined ones; whether they all are options.
+    fn set(&mut self, given: &str) -> bool {
+        let letters = match given {
+            "--explain" => "e",
+            "--json" => "j",
+            "--quiet" => "q",
+            _ => given.strip_prefix('-').unwrap_or(""),
+        };
+        for letter in letters.chars() {
+            match letter {
+                'e' => self.explain = true,
+                'j' => self.json = true,
+                'q' => self.quiet = true,
+                _ => return false,
+            }
+        }
+        !letters.is_empty()
     }
 }
 
@@ -133,6 +157,25 @@ mod tests {
             panic!("a check");
         };
         assert_eq!(options.inputs.len(), 2);
+    }
+
+    #[test]
+    fn letters_may_be_joined() {
+        let options = Options {
+            explain: true,
+            json: true,
+            inputs: vec![Input::Path("a".into())],
+            ..Options::default()
+        };
+        assert_eq!(parsed(&["-je", "a"]), Ok(Command::Check(options)));
+        assert!(parsed(&["-jx"]).unwrap_err().contains("-jx"));
+        assert!(parsed(&["dump", "-e"]).is_err());
+    }
+
+    #[test]
+    fn standard_input_is_read_once() {
+        assert!(parsed(&["-", "a", "-"]).is_err());
+        assert!(parsed(&["-", "a"]).is_ok());
     }
 
     #[test]

@@ -2,7 +2,7 @@
 
 use crate::verdict::Verdict;
 use qaabireed::layout::TRAILER;
-use qaabireed::{Name, Piece, Sort, outline};
+use qaabireed::{Piece, Refusal, Sort, outline};
 
 /// Where a place lies.
 pub struct Location {
@@ -10,19 +10,19 @@ pub struct Location {
     pub place: usize,
     /// The section, or `trailer`.
     pub section: &'static str,
-    /// `knot` or `function`, and its name.
-    pub flow: Option<(&'static str, Name)>,
+    /// The knot or function.
+    pub flow: Option<Piece>,
     /// The stitch.
-    pub stitch: Option<Name>,
+    pub stitch: Option<Piece>,
     /// The pieces from the root, flow or declaration down to the place.
     pub path: Vec<Piece>,
 }
 
-/// Where a breach lies, or where the reading of a refused file stopped.
+/// Where a breach lies, or where the reading of a refused file stopped; one of a wrong length is not read.
 pub fn location(verdict: &Verdict) -> Option<Location> {
     match verdict {
         Verdict::Breach { file, breach } => Some(locate(file, breach.place as usize)),
-        Verdict::Refused { file, .. } if file.len() >= TRAILER => {
+        Verdict::Refused { file, refusal } if *refusal != Refusal::Length => {
             let stop = outline(file).stop?;
             Some(locate(file, stop.place))
         }
@@ -34,13 +34,12 @@ pub fn location(verdict: &Verdict) -> Option<Location> {
 fn locate(file: &[u8], place: usize) -> Location {
     let outline = outline(file);
     let around = outline.around(place);
-    let of = |sort: Sort| around.iter().find(|piece| piece.sort == sort);
-    let name = |piece: &&Piece| piece.name.clone().unwrap_or_default();
+    let of = |sort: Sort| around.iter().copied().find(|piece| piece.sort == sort);
     Location {
         place,
         section: of(Sort::Section).map_or(default_section(file, place), |piece| piece.title),
-        flow: of(Sort::Flow).map(|piece| (piece.title, name(piece))),
-        stitch: of(Sort::Stitch).map(name),
+        flow: of(Sort::Flow).cloned(),
+        stitch: of(Sort::Stitch).cloned(),
         path: path(&around),
     }
 }

@@ -47,6 +47,12 @@ pub fn find(inputs: &[Input]) -> Vec<Item> {
 /// The items of one input.
 fn items(input: &Input) -> Vec<Item> {
     match input {
+        Input::Path(path) if path.as_os_str().is_empty() => {
+            vec![Item::Unreadable(
+                path.clone(),
+                "the path is empty".to_string(),
+            )]
+        }
         Input::Path(path) if path.is_dir() => {
             let mut found = Vec::new();
             search(path, &mut found);
@@ -70,8 +76,18 @@ fn search(folder: &Path, found: &mut Vec<Item>) {
         if is_folder {
             search(&path, found);
         } else if path.extension().is_some_and(|end| end == EXTENSION) && !path.is_dir() {
-            found.push(Item::File(path));
+            found.push(member(path));
         }
+    }
+}
+
+/// A story file of a folder; what may never end, as a pipe, is read only where it is given itself.
+fn member(path: PathBuf) -> Item {
+    match path.metadata() {
+        Ok(metadata) if !metadata.is_file() => {
+            Item::Unreadable(path, "a pipe, socket or device, not a file".to_string())
+        }
+        _ => Item::File(path),
     }
 }
 

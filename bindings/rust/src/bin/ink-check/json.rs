@@ -57,11 +57,10 @@ fn explained(location: &Location) -> String {
     let mut object = Object::new();
     object.number("place", location.place);
     object.string("section", location.section.as_bytes());
-    if let Some((title, name)) = &location.flow {
-        object.string(title, name.as_bytes());
-    }
-    if let Some(stitch) = &location.stitch {
-        object.string("stitch", stitch.as_bytes());
+    for piece in [&location.flow, &location.stitch].into_iter().flatten() {
+        if let Some(name) = &piece.name {
+            object.string(piece.title, name.as_bytes());
+        }
     }
     object.raw("path", &array(location.path.iter().map(piece_object)));
     object.finish()

@@ -100,8 +100,13 @@ fn dump(input: &Input, out: &mut BufWriter<StdoutLock>) -> Result<u8> {
         out.write_all(&text::line(item.path(), &verdict, false))?;
         return Ok(2);
     };
-    out.write_all(item.path())?;
-    write!(out, ": {} bytes\n{}", file.len(), outline(file))?;
+    out.write_all(&text::path_shown(item.path()))?;
+    write!(
+        out,
+        ": {} bytes\n{}",
+        verdict::length_shown(file),
+        outline(file)
+    )?;
     if let Verdict::Refused { .. } = &verdict {
         out.write_all(&text::line(item.path(), &verdict, true))?;
         return Ok(2);

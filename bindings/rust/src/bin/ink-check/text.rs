@@ -10,7 +10,27 @@ pub fn line(path: &[u8], verdict: &Verdict, explain: bool) -> Vec<u8> {
     if explain && let Some(location) = location(verdict) {
         text.push_str(&explained(verdict, &location));
     }
-    [path, text.as_bytes()].concat()
+    [path_shown(path), text.into_bytes()].concat()
+}
+
+/// A path as it was given, but with `\\xNN` for control characters, and quotes where it is empty.
+pub fn path_shown(path: &[u8]) -> Vec<u8> {
+    if path.is_empty() {
+        return b"''".to_vec();
+    }
+    let mut text = Vec::with_capacity(path.len());
+    for chunk in path.utf8_chunks() {
+        for character in chunk.valid().chars() {
+            let mut bytes = [0; 4];
+            let bytes = character.encode_utf8(&mut bytes).as_bytes();
+            match character.is_control() {
+                true => text.extend(shown(bytes).into_bytes()),
+                false => text.extend(bytes),
+            }
+        }
+        text.extend(chunk.invalid());
+    }
+    text
 }
 
 /// The verdict in words.
@@ -45,13 +65,18 @@ fn explained(verdict: &Verdict, location: &Location) -> String {
 
 /// The knot and stitch, or the section.
 fn container(location: &Location) -> String {
-    let Some((title, name)) = &location.flow else {
-        return format!("the {}", location.section);
-    };
-    let flow = format!("{title} '{}'", name.shown());
-    match &location.stitch {
-        None => flow,
-        Some(stitch) => format!("{flow}, stitch '{}'", stitch.shown()),
+    match (&location.flow, &location.stitch) {
+        (None, _) => format!("the {}", location.section),
+        (Some(flow), None) => called(flow),
+        (Some(flow), Some(stitch)) => format!("{}, {}", called(flow), called(stitch)),
+    }
+}
+
+/// A flow or stitch by its name; one that was not read so far has none.
+fn called(piece: &Piece) -> String {
+    match piece.name {
+        Some(_) => piece.to_string(),
+        None => format!("a {piece}"),
     }
 }
 

@@ -64,13 +64,27 @@ pub fn reason(refusal: Refusal, file: &[u8]) -> String {
     let range = format!("a story file has {TRAILER} to {LONGEST_FILE}");
     match (refusal, file.len()) {
         (Refusal::Length, 0) => format!("the file is empty, {range} bytes"),
-        (Refusal::Length, length) if length > LONGEST_FILE => {
-            format!("the file has over {LONGEST_FILE} bytes, {range}")
-        }
         (Refusal::Length, 1) => format!("the file has 1 byte, {range}"),
-        (Refusal::Length, length) => format!("the file has {length} bytes, {range}"),
+        (Refusal::Length, _) => format!("the file has {} bytes, {range}", length_shown(file)),
+        (Refusal::Mark, _) if is_text(file) => {
+            format!("{refusal}; this is text, not an encoded story")
+        }
         _ => refusal.to_string(),
     }
+}
+
+/// How many bytes a file has; of one that is too long, no more than that is known.
+pub fn length_shown(file: &[u8]) -> String {
+    match file.len() > LONGEST_FILE {
+        true => format!("over {LONGEST_FILE}"),
+        false => file.len().to_string(),
+    }
+}
+
+/// Whether a file holds text, as the source of a story does.
+fn is_text(file: &[u8]) -> bool {
+    let text = std::str::from_utf8(file);
+    text.is_ok_and(|text| !text.contains(|one: char| one.is_control() && !"\t\n\r".contains(one)))
 }
 
 /// All bytes, or one more than the longest file has.
