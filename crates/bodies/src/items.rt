@@ -126,7 +126,7 @@ fn cond_sort(kind: u8) -> u8
     }
 }
 
-// The sort of an expression that calls visit.
+// The sort of an expression that the steps on calls and variables visit.
 fn expr_sort(kind: u8) -> u8
     ensures { λ r. ⌜ r ≡ code (getD exprSorts kind Kind.plain) ⌝ }
 {

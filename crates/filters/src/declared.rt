@@ -1,4 +1,4 @@
-// A filter over what a knot declares: its parameters, and the temps of its own list.
+// A filter over what a knot declares, its parameters and the temps of its own list: rule 15 (variables.rs).
 ghost use mathlib.Core.Path.{_≡_};
 ghost use mathlib.Core.List.{List};
 ghost use Prim.Native.Nat.{_≤_};

@@ -1,4 +1,4 @@
-// A filter over the gathers that a pass has met in a body.
+// A filter over the gathers that a pass has met in a body: rule 10 (structure.rs).
 ghost use mathlib.Core.Path.{_≡_};
 ghost use Prim.Native.Nat.{_≤_};
 ghost use lib.ListN.{length, take};

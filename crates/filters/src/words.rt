@@ -21,7 +21,7 @@ pub fn add_word(filter: &mut [u8], word: &[u8])
     filter[slot] = 1;
 }
 
-// The word was surely not added. A filter without slots says it of none.
+// The word was not added. A filter without slots says it of none.
 pub fn lacks_word(filter: &[u8], word: &[u8]) -> bool
     ensures { λ r. ⌜ r ≡ lacks (now (filter .entry)) (now (word .entry)) ⌝ }
 {

@@ -253,33 +253,45 @@ fn put_gathers(space: &mut [u8]) -> usize {
     put_trailer(space, end, 0, flows)
 }
 
-// Puts the story of a case: 2,047 to 2,049 records in a stitch; depths 64 and 65; gathers; 1,048,576 bytes and one more; 524,288 bytes.
+// Puts a story whose root has so many diverts to the knot and a wrong one.
+fn put_root(space: &mut [u8], n: usize) -> usize {
+    let last = put_diverts(space, 0, n);
+    let flows = put_record(space, last, 3, ELSEWHERE);
+    let end = put_knot(space, flows, 0, KNOT, KNOT);
+    put_trailer(space, end, 0, flows)
+}
+
+// Puts the story of a case: the last record of a window and the first of the next, for windows of 512, 4,096 and 16,384 records; depths 64 and
+// 65; gathers; 1,048,576 bytes and one more; 524,288 bytes.
 fn put_case(case: u8, space: &mut [u8]) -> usize {
     match case {
-        0 => put_story(space, 0, 2046, ELSEWHERE),
-        1 => put_story(space, 0, 2047, ELSEWHERE),
-        2 => put_story(space, 0, 2048, ELSEWHERE),
-        3 => put_deep(space, 315),
-        4 => put_deep(space, 320),
-        5 => put_gathers(space),
-        6 => put_globals(space, 1048556),
-        7 => put_globals(space, 1048557),
-        8..=10 => put_story(space, 279, 24950, KNOT),
-        11..=255 => put_story(space, 279, 24950, ELSEWHERE),
+        0 => put_root(space, 511),
+        1 => put_root(space, 512),
+        2 => put_root(space, 4095),
+        3 => put_root(space, 4096),
+        4 => put_story(space, 0, 16383, ELSEWHERE),
+        5 => put_story(space, 0, 16384, ELSEWHERE),
+        6 => put_deep(space, 315),
+        7 => put_deep(space, 320),
+        8 => put_gathers(space),
+        9 => put_globals(space, 1048556),
+        10 => put_globals(space, 1048557),
+        11..=13 => put_story(space, 279, 24950, KNOT),
+        14..=255 => put_story(space, 279, 24950, ELSEWHERE),
     }
 }
 
-// The numbers of the index that a case lends: one short in case 9.
+// The numbers of the index that a case lends: one short in case 12.
 fn numbers_of(case: u8) -> usize {
-    if case == 9 {
+    if case == 12 {
         return NUMBERS - 1;
     }
     NUMBERS
 }
 
-// The bytes of the message buffer that a case lends: one short in case 10.
+// The bytes of the message buffer that a case lends: one short in case 13.
 fn bytes_of(case: u8) -> usize {
-    if case == 10 {
+    if case == 13 {
         return MESSAGE - 1;
     }
     MESSAGE
@@ -302,7 +314,7 @@ fn print_case(case: u8, space: &mut [u8], index: &mut [u32], message: &mut [u8],
 // Writes the lines of all cases.
 fn print_cases(space: &mut [u8], index: &mut [u32], message: &mut [u8], out: &mut [u8]) {
     let mut case: u8 = 0;
-    while case < 12 {
+    while case < 15 {
         print_case(case, space, index, message, out);
         case += 1;
     }

@@ -173,7 +173,7 @@ least s o = record {
   least = λ b c e h. first-least Later (breaches s) (in-order s o) b c e (listed s c h);
 }
 
--- each breach is listed once (request 4)
+-- each breach is listed once
 not-later : (b : Breach) → Later b b → ⊥
 not-later b (inl h) = omega arith
 not-later b (inr (inl h)) = omega arith

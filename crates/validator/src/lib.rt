@@ -106,7 +106,7 @@ fn check_story(
     }
 }
 
-// The story of a short file, with buffers that are made in no time.
+// The story of a file of at most 4,096 bytes, in buffers of some 12 KB.
 fn check_short(file: &[u8], c: Sections, index: &mut [u32], message: &mut [u8]) -> Answer
     requires { ⌜ readOf (now file) ≡ Opened.At c ⌝ }
     requires { ⌜ (3 * c .end ≤ length (now index)) × (640 ≤ length (now message)) ⌝ }
@@ -132,7 +132,7 @@ fn check_short(file: &[u8], c: Sections, index: &mut [u32], message: &mut [u8]) 
     )
 }
 
-// The story of a file of middling length.
+// The story of a file of at most 65,536 bytes, in buffers of some 117 KB.
 fn check_middling(file: &[u8], c: Sections, index: &mut [u32], message: &mut [u8]) -> Answer
     requires { ⌜ readOf (now file) ≡ Opened.At c ⌝ }
     requires { ⌜ (3 * c .end ≤ length (now index)) × (640 ≤ length (now message)) ⌝ }
@@ -158,7 +158,7 @@ fn check_middling(file: &[u8], c: Sections, index: &mut [u32], message: &mut [u8
     )
 }
 
-// The story of a long file, with buffers that have room for its names.
+// The story of a longer file, in buffers of some 1 MB.
 fn check_long(file: &[u8], c: Sections, index: &mut [u32], message: &mut [u8]) -> Answer
     requires { ⌜ readOf (now file) ≡ Opened.At c ⌝ }
     requires { ⌜ (3 * c .end ≤ length (now index)) × (640 ≤ length (now message)) ⌝ }

@@ -7,10 +7,10 @@ use Rattle.limit_runs.proofs.print_cases.Statement.{statement}
 use Rattle.limit_runs.proofs.print_cases.Tie as tie
 
 abbrev Inv-loop : tie.InvT-loop
-Inv-loop space₀ index₀ message₀ out₀ case₀ space index message out case = (case ≤ 12) × (length space ≡ length space₀) × (length index ≡ length index₀) × (length message ≡ length message₀) × (length out ≡ length out₀)
+Inv-loop space₀ index₀ message₀ out₀ case₀ space index message out case = (case ≤ 15) × (length space ≡ length space₀) × (length index ≡ length index₀) × (length message ≡ length message₀) × (length out ≡ length out₀)
 
 abbrev μ-loop : tie.MeasureT-loop
-μ-loop space₀ index₀ message₀ out₀ case₀ space index message out case = 12 - case
+μ-loop space₀ index₀ message₀ out₀ case₀ space index message out case = 15 - case
 
 pub print-cases-spec : {M : Type 1} → statement M
 print-cases-spec =
