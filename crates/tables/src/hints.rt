@@ -1,4 +1,4 @@
-// A table of entry numbers by the hash of a spelling. What it says is a guess: it is compared with the entry before it is believed.
+// A table of entry numbers by the hash of a spelling. What stands in it are numbers to try: the entry is compared before it counts.
 ghost use mathlib.Core.Path.{_≡_};
 ghost use mathlib.Core.Bool.{true};
 ghost use Prim.Native.Nat.{_/_, _≤_, _<_};
@@ -6,7 +6,7 @@ ghost use lib.ListN.{length};
 ghost use Rattle.names.specs.Words.{any};
 ghost use Rattle.symbols.specs.Fits.{answers};
 ghost use Rattle.symbols.specs.Rows.{spellingsIn, wanted};
-ghost use Rattle.tables.specs.Hints.{rowAt, Answered};
+ghost use Rattle.tables.specs.Hints.{rowAt, dottedHash, entryHash, Answered};
 use crate::clear;
 use crate::hashes::TRIES;
 use crate::hashes::hash_of;
@@ -21,7 +21,9 @@ use symbols::targets::find_target;
 use symbols::targets::fit_entry;
 
 // Writes the number into the first empty slot of those that the hash has; where there is none, nothing.
-fn put_hint(table: &mut [u32], hash: usize, number: u32) {
+fn put_hint(table: &mut [u32], hash: usize, number: u32)
+    ensures { λ _. ⌜ length (now (table .exit)) ≡ length (now (table .entry)) ⌝ }
+{
     if table.len() == 0 {
         return;
     }
@@ -38,7 +40,9 @@ fn put_hint(table: &mut [u32], hash: usize, number: u32) {
 }
 
 // The hash goes on over the name at the place and a dot, where there is a name.
-fn hash_dotted(start: usize, file: &[u8], at: u32) -> usize {
+fn hash_dotted(start: usize, file: &[u8], at: u32) -> usize
+    ensures { λ r. ⌜ r ≡ dottedHash (now (file .entry)) start at ⌝ }
+{
     if at == ABSENT {
         return start;
     }
@@ -46,7 +50,9 @@ fn hash_dotted(start: usize, file: &[u8], at: u32) -> usize {
 }
 
 // The hash of the spelling of an entry.
-fn hash_entry(file: &[u8], p: Places) -> usize {
+fn hash_entry(file: &[u8], p: Places) -> usize
+    ensures { λ r. ⌜ r ≡ entryHash (now (file .entry)) p ⌝ }
+{
     let flow = hash_dotted(5381, file, p.flow);
     let stitch = hash_dotted(flow, file, p.stitch);
     hash_on(stitch, name_at(file, p.own as usize))
@@ -84,7 +90,9 @@ fn entry_at(index: &[u32], k: usize) -> Places
 
 // Writes the numbers of the entries, plus 1, by their spellings and, where a flow's name stands before it, by their own names. Nothing is
 // promised of what the table holds then.
-pub fn put_hints(file: &[u8], index: &[u32], count: usize, hints: &mut [u32]) {
+pub fn put_hints(file: &[u8], index: &[u32], count: usize, hints: &mut [u32])
+    ensures { λ _. ⌜ length (now (hints .exit)) ≡ length (now (hints .entry)) ⌝ }
+{
     clear(hints);
     let end = entry_count(index, count);
     let mut k = 0;
