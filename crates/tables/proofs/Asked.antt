@@ -1,10 +1,10 @@
 -- What the table of functions answers of a name. Assumes nothing.
-use mathlib.Core.Path.{_≡_, sym}
-use mathlib.Core.Bool.{Bool, true, false}
+use mathlib.Core.Path.{_≡_, sym, _∙_}
+use mathlib.Core.Bool.{Bool, true, false, true≢false}
 use mathlib.Core.List.{List}
-use Prim.Native.Nat.{ℕ, _-_, _%_, _<_}
+use Prim.Native.Nat.{ℕ, _-_, _<_}
 use lib.ListN.{length, getD, take, drop}
-use Rattle.names.specs.Words.{Bytes, same, any}
+use Rattle.names.specs.Words.{Bytes, any}
 use Rattle.names.specs.Counted.{nameAt}
 use Rattle.names.proofs.Bools.{is-true, is-false}
 use Rattle.names.proofs.Words.{same-eq}
@@ -13,8 +13,11 @@ use Rattle.story.specs.Flows.{flowsIn}
 use Rattle.story.specs.File.{storyIn}
 use Rattle.searches.specs.Called.{isFunction}
 use Rattle.searches.proofs.Answers.{flows-answer}
-use Rattle.tables.specs.Hashes.{hashOf}
-use Rattle.tables.specs.Functions.{Functions}
+use Rattle.tables.specs.declared.functions.Sought.{Sought}
+use Rattle.tables.specs.declared.functions.Sought.the-variants as sought
+use Rattle.tables.specs.Tables.{slotOf}
+use Rattle.tables.specs.Functions.{soughtOf, Functions}
+use Rattle.tables.proofs.Seeking.{found-slot}
 
 module _ (file : List ℕ) (c : Sections) (n : Bytes) where
   -- by going through the flows
@@ -22,15 +25,16 @@ module _ (file : List ℕ) (c : Sections) (n : Bytes) where
   unfolding storyIn
   listed e = flows-answer file n (c .flows) true (c .end) e
 
-  module _ {table : List ℕ} (f : Functions file c table) where
-    -- the name's slot is empty
-    pub slot-empty : {hash slot : ℕ} → 0 < length table → hash ≡ hashOf n → slot ≡ hash % length table → getD table slot 0 ≡ 0 → false ≡ any (isFunction n) (storyIn c file .flows)
-    slot-empty h p q z =
-        sym (is-false (any (isFunction n) (storyIn c file .flows)) (λ t. f .complete h n (is-true (any (isFunction n) (storyIn c file .flows)) t) (rw (← p, ← q) z)))
+  module _ {table : List ℕ} (f : Functions file c table) {r : Sought} (e : r ≡ soughtOf file table n) where
+    -- the walk over the name's slots ended at an empty slot
+    pub sought-vacant : {slot : ℕ} → 0 < length table → r ≡ sought.Vacant slot → false ≡ any (isFunction n) (storyIn c file .flows)
+    sought-vacant h q =
+        sym (is-false (any (isFunction n) (storyIn c file .flows))
+        (λ t. let k = f .complete h n (is-true (any (isFunction n) (storyIn c file .flows)) t) in true≢false (rw (← e, q) at k)))
 
-    -- a slot leads to the name
-    pub slot-found : (slot : ℕ) {r : Bool} → (getD table slot 0 ≡ 0 → ⊥) → r ≡ same n (nameAt file (getD table slot 0 - 1)) → r ≡ true
-        → true ≡ any (isFunction n) (storyIn c file .flows)
-    slot-found slot z e t =
-        let i : n ≡ nameAt file (getD table slot 0 - 1) = same-eq n (nameAt file (getD table slot 0 - 1)) (rw (← e, t) tt) in
-        rw i (sym (f .sound slot z))
+    -- the walk met the name
+    pub sought-found : r ≡ sought.Found → true ≡ any (isFunction n) (storyIn c file .flows)
+    sought-found q =
+        let i = found-slot file table n 8 (slotOf table n) (sym e ∙ q) in
+        let m : n ≡ nameAt file (getD table (i .0) 0 - 1) = same-eq n (nameAt file (getD table (i .0) 0 - 1)) (i .2) in
+        rw m (sym (f .sound (i .0) (i .1)))

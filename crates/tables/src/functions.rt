@@ -5,9 +5,11 @@ ghost use lib.ListN.{length};
 ghost use Rattle.names.specs.Words.{any};
 ghost use Rattle.story.specs.File.{readOf, InOrder, storyIn};
 ghost use Rattle.searches.specs.Called.{isFunction};
-ghost use Rattle.tables.specs.Functions.{withFlow, Functions};
+ghost use Rattle.tables.specs.Functions.{soughtOf, withFlow, Functions};
 use crate::clear;
+use crate::hashes::TRIES;
 use crate::hashes::hash_of;
+use crate::hashes::next_slot;
 use crate::hashes::slot_of;
 use names::name_at;
 use names::same_at;
@@ -18,18 +20,52 @@ use searches::views::flow_view;
 use story::Opened;
 use story::Sections;
 
-// Writes the name's place of a flow that is a function into the slot of the name.
+// Where a walk over the slots of a name ends: at the name, at an empty slot, or past the last slot that is tried.
+pub enum Sought {
+    Found,
+    Vacant(usize),
+    Exhausted,
+}
+
+// Goes over the slots of a name up to the name or an empty slot.
+fn seek(file: &[u8], table: &[u32], name: &[u8]) -> Sought
+    requires { ⌜ 0 < length (now table) ⌝ }
+    ensures { λ r. ⌜ r ≡ soughtOf (now (file .entry)) (now (table .entry)) (now (name .entry)) ⌝ }
+{
+    let mut slot = slot_of(hash_of(name), table.len());
+    let mut left = TRIES;
+    while 0 < left {
+        let number = table[slot] as usize;
+        if number == 0 {
+            return Sought::Vacant(slot);
+        }
+        if same_at(file, number - 1, name) {
+            return Sought::Found;
+        }
+        slot = next_slot(slot, table.len());
+        left = left - 1;
+    }
+    Sought::Exhausted
+}
+
+// Writes the name's place of a flow that is a function into the first empty slot of the name, unless the name stands before it.
 fn put_flow(file: &[u8], v: FlowView, table: &mut [u32])
     requires { ⌜ (0 < length (now table)) × (v .name ≤ 1048576) ⌝ }
     ensures { λ _. ⌜ now (table .exit) ≡ withFlow (now (file .entry)) v (now (table .entry)) ⌝ }
 {
     if v.function {
-        let slot = slot_of(hash_of(name_at(file, v.name)), table.len());
-        table[slot] = (v.name + 1) as u32;
+        let found = seek(file, table, name_at(file, v.name));
+        match found {
+            Sought::Found => {}
+            Sought::Vacant(slot) => {
+                table[slot] = (v.name + 1) as u32;
+            }
+            Sought::Exhausted => {}
+        }
     }
 }
 
-// Writes the table of the functions of a readable file. A slot has 1 + the place of the name of a function whose hash falls there, or 0.
+// Writes the table of the functions of a readable file. A slot has 1 + the place of the name of a function, or 0.
 pub fn put_functions(file: &[u8], c: Sections, table: &mut [u32])
     requires { ⌜ readOf (now file) ≡ Opened.At c ⌝ }
     ensures { λ _. ⌜ Functions (now (file .entry)) c (now (table .exit)) ⌝ }
@@ -58,7 +94,7 @@ fn is_function_listed(file: &[u8], c: Sections, name: &[u8]) -> bool
     is_function_name(&file[flows..end], name)
 }
 
-// The name is a function's: by the table, or by going through the flows where another function has the slot.
+// The name is a function's: by the table, or by going through the flows where other functions have all slots of the name.
 pub fn is_function_in(file: &[u8], c: Sections, table: &[u32], name: &[u8]) -> bool
     requires { ⌜ InOrder c (now file) ⌝ }
     requires { ⌜ Functions (now file) c (now table) ⌝ }
@@ -67,13 +103,10 @@ pub fn is_function_in(file: &[u8], c: Sections, table: &[u32], name: &[u8]) -> b
     if table.len() == 0 {
         return is_function_listed(file, c, name);
     }
-    let slot = slot_of(hash_of(name), table.len());
-    let number = table[slot] as usize;
-    if number == 0 {
-        return false;
+    let found = seek(file, table, name);
+    match found {
+        Sought::Found => true,
+        Sought::Vacant(_) => false,
+        Sought::Exhausted => is_function_listed(file, c, name),
     }
-    if same_at(file, number - 1, name) {
-        return true;
-    }
-    is_function_listed(file, c, name)
 }

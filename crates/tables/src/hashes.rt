@@ -1,7 +1,11 @@
-// Hashes of words.
+// Hashes of words, and the slots that a hash has in a table.
 ghost use mathlib.Core.Path.{_≡_};
 ghost use Prim.Native.Nat.{_%_, _<_};
 ghost use Rattle.tables.specs.Hashes.{hashOn, hashOf};
+ghost use Rattle.tables.specs.Tables.{nextSlot};
+
+// How many slots are tried, from that of the hash on.
+pub const TRIES: usize = 8;
 
 // The hash of a word that goes on from another hash.
 pub fn hash_on(start: usize, word: &[u8]) -> usize
@@ -29,4 +33,16 @@ pub fn slot_of(hash: usize, slots: usize) -> usize
     ensures { λ r. ⌜ (r ≡ hash % slots) × (r < slots) ⌝ }
 {
     hash % slots
+}
+
+// The slot after this one, where the first follows the last.
+pub fn next_slot(slot: usize, slots: usize) -> usize
+    requires { ⌜ slot < slots ⌝ }
+    ensures { λ r. ⌜ (r ≡ nextSlot slots slot) × (r < slots) ⌝ }
+{
+    let next = slot + 1;
+    if next < slots {
+        return next;
+    }
+    0
 }

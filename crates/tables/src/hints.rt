@@ -8,8 +8,10 @@ ghost use Rattle.symbols.specs.Fits.{answers};
 ghost use Rattle.symbols.specs.Rows.{spellingsIn, wanted};
 ghost use Rattle.tables.specs.Hints.{rowAt, Answered};
 use crate::clear;
+use crate::hashes::TRIES;
 use crate::hashes::hash_of;
 use crate::hashes::hash_on;
+use crate::hashes::next_slot;
 use crate::hashes::slot_of;
 use names::name_at;
 use symbols::ABSENT;
@@ -17,21 +19,6 @@ use symbols::Fit;
 use symbols::Places;
 use symbols::targets::find_target;
 use symbols::targets::fit_entry;
-
-// How many slots are tried, from that of the hash on.
-const TRIES: usize = 8;
-
-// The slot after this one, where the first follows the last.
-fn next_slot(slot: usize, slots: usize) -> usize
-    requires { ⌜ slot < slots ⌝ }
-    ensures { λ r. ⌜ r < slots ⌝ }
-{
-    let next = slot + 1;
-    if next < slots {
-        return next;
-    }
-    0
-}
 
 // Writes the number into the first empty slot of those that the hash has; where there is none, nothing.
 fn put_hint(table: &mut [u32], hash: usize, number: u32) {

@@ -1,18 +1,16 @@
--- `tables::functions::is_function_in` meets its contract: the name's slot is empty, leads to the name, or the flows decide. Assumes nothing.
+-- `tables::functions::is_function_in` meets its contract: the walk over the name's slots ends at an empty one, at the name, or the flows
+-- decide. Assumes nothing.
 use native.Mathlib.Omega.{arith}
-use Rattle.tables.proofs.Asked.{slot-empty, slot-found}
+use Rattle.tables.proofs.Asked.{sought-vacant, sought-found}
 use borrow.Author.Needs.{needs}
 use Rattle.tables.proofs.functions.is_function_in.Statement.{statement}
 use Rattle.tables.proofs.functions.is_function_in.Tie as tie
 
-cast-number : tie.Need-cast-number
-cast-number c = omega (arith, c .shared-slice-known4 .given (c .before .slot-of .result))
-
 returns-2 : tie.Need-returns-2
-returns-2 c = slot-empty _ _ _ (c .before .before .before .before .before .before .before .before .pre .1) (omega arith) (c .before .before .before .hash-of .ensures) (c .before .before .slot-of .ensures .0) (c .if2 .taken)
+returns-2 c = sought-found (c .before .before .before .before .before .before .before .args .file .now) _ (c .before .before .before .before .before .before .before .args .name .now) (c .before .before .before .before .before .before .before .pre .1) (c .before .before .seek .ensures) (c .enum-told .given .1)
 
 returns-3 : tie.Need-returns-3
-returns-3 c = slot-found _ _ (c .before .before .before .before .before .before .before .before .before .before .args .name .now) (c .before .before .before .before .before .before .before .before .before .before .pre .1) (c .before .before .before .before .slot-of .result) (c .before .before .if2 .left) (c .before .same-at .ensures) (c .if3 .taken)
+returns-3 c = sought-vacant (c .before .before .before .before .before .before .before .args .file .now) _ (c .before .before .before .before .before .before .before .args .name .now) (c .before .before .before .before .before .before .before .pre .1) (c .before .before .seek .ensures) (omega arith) (c .enum-told2 .given .1)
 
 pub is-function-in-spec : {M : Type 1} → statement M
 is-function-in-spec =
@@ -21,13 +19,10 @@ is-function-in-spec =
     (λ c κs. search needs)
     (λ c. search needs)
     (λ c κs. search needs)
+    (λ c. search needs)
+    (λ c. search needs)
+    (λ c. search needs)
     (λ c κs. search needs)
-    (λ c. search needs)
-    (λ c. search needs)
-    cast-number
     returns-2
-    (λ c. search needs)
-    (λ c κs. search needs)
     returns-3
-    (λ c κs. search needs)
     (λ c. search needs))

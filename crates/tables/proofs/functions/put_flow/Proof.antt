@@ -1,11 +1,25 @@
 -- `tables::functions::put_flow` meets its contract. Assumes nothing.
+use native.Mathlib.Omega.{arith}
+use Rattle.tables.proofs.Seeking.{vacant-inside}
 use Rattle.tables.proofs.Filling.{flow-written}
 use borrow.Author.Needs.{needs}
 use Rattle.tables.proofs.functions.put_flow.Statement.{statement}
 use Rattle.tables.proofs.functions.put_flow.Tie as tie
 
+mul-table : tie.Need-mul-table
+mul-table c = let i = vacant-inside (c .before .before .before .before .before .before .before .before .before .before .args .file .now) (c .before .before .before .before .before .before .before .before .before .before .args .table .now) _ (c .before .before .before .before .before .before .before .before .before .before .pre .0) (c .before .before .before .before .seek .ensures) (c .before .before .found .given .1) in search (needs, i)
+
+slice-write-table : tie.Need-slice-write-table
+slice-write-table c = let i = vacant-inside (c .before .before .before .before .before .before .before .before .before .before .args .file .now) (c .before .before .before .before .before .before .before .before .before .before .args .table .now) _ (c .before .before .before .before .before .before .before .before .before .before .pre .0) (c .before .before .before .before .seek .ensures) (c .before .before .found .given .1) in omega arith
+
 returns : tie.Need-returns
-returns c = flow-written (c .before .before .before .before .before .before .before .args .file .now) (c .before .before .before .before .before .before .before .args .v) (c .before .before .before .before .before .before .before .args .table .now) (c .before .before .before .before .if1 .taken) (c .before .before .before .name-at .ensures) (c .before .before .hash-of .ensures) (c .before .slot-of .ensures .0)
+returns c = flow-written (c .before .before .before .before .before .before .before .before .args .file .now) (c .before .before .before .before .before .before .before .before .args .v) (c .before .before .before .before .before .before .before .before .args .table .now) (c .before .before .seek .ensures) (c .enum-told .given .1) (c .before .before .before .before .before .if1 .taken) (c .before .before .before .name-at .ensures)
+
+returns-2 : tie.Need-returns-2
+returns-2 c = flow-written (c .before .before .before .before .before .before .before .before .before .before .args .file .now) (c .before .before .before .before .before .before .before .before .before .before .args .v) (c .before .before .before .before .before .before .before .before .before .before .args .table .now) (c .before .before .before .before .seek .ensures) (c .before .before .found .given .1) (c .before .before .before .before .before .before .before .if1 .taken) (c .before .before .before .before .before .name-at .ensures)
+
+returns-3 : tie.Need-returns-3
+returns-3 c = flow-written (c .before .before .before .before .before .before .before .before .args .file .now) (c .before .before .before .before .before .before .before .before .args .v) (c .before .before .before .before .before .before .before .before .args .table .now) (c .before .before .seek .ensures) (c .enum-told2 .given .1) (c .before .before .before .before .before .if1 .taken) (c .before .before .before .name-at .ensures)
 
 pub put-flow-spec : {M : Type 1} → statement M
 put-flow-spec =
@@ -13,11 +27,17 @@ put-flow-spec =
     (tie.spec
     (λ c κs. search needs)
     (λ c κs. search needs)
-    (λ c κs. search needs)
     (λ c. search needs)
     (λ c. search needs)
     (λ c. search needs)
+    (λ c. search needs)
+    mul-table
+    slice-write-table
     (λ c. search needs)
     (λ c. search needs)
     returns
+    (λ c. search needs)
+    returns-2
+    (λ c. search needs)
+    returns-3
     (λ c. search needs))
