@@ -1,4 +1,5 @@
 -- `tables::functions::put_flow` meets its contract. Assumes nothing.
+use native.Mathlib.Omega.{arith}
 use Rattle.tables.proofs.Seeking.{vacant-inside}
 use Rattle.tables.proofs.Filling.{flow-written}
 use borrow.Author.Needs.{needs}
@@ -9,7 +10,7 @@ mul-table : tie.Need-mul-table
 mul-table c = let i = vacant-inside (c .before .before .before .before .before .before .before .before .before .before .args .file .now) (c .before .before .before .before .before .before .before .before .before .before .args .table .now) _ (c .before .before .before .before .before .before .before .before .before .before .pre .0) (c .before .before .before .before .seek .ensures) (c .before .before .found .given .1) in search (needs, i)
 
 slice-write-table : tie.Need-slice-write-table
-slice-write-table c = vacant-inside (c .before .before .before .before .before .before .before .before .before .before .args .file .now) (c .before .before .before .before .before .before .before .before .before .before .args .table .now) _ (c .before .before .before .before .before .before .before .before .before .before .pre .0) (c .before .before .before .before .seek .ensures) (c .before .before .found .given .1)
+slice-write-table c = let i = vacant-inside (c .before .before .before .before .before .before .before .before .before .before .args .file .now) (c .before .before .before .before .before .before .before .before .before .before .args .table .now) _ (c .before .before .before .before .before .before .before .before .before .before .pre .0) (c .before .before .before .before .seek .ensures) (c .before .before .found .given .1) in omega arith
 
 returns : tie.Need-returns
 returns c = flow-written (c .before .before .before .before .before .before .before .before .args .file .now) (c .before .before .before .before .before .before .before .before .args .v) (c .before .before .before .before .before .before .before .before .args .table .now) (c .before .before .seek .ensures) (c .enum-told .given .1) (c .before .before .before .before .before .if1 .taken) (c .before .before .before .name-at .ensures)
