@@ -6,6 +6,8 @@ use crate::second::MESSAGE;
 /// One check of the list.
 #[derive(Debug, Clone, Default)]
 pub struct Item {
+    /// The block's first line: `vector` or `call`, and its name.
+    pub title: String,
     /// The numbers of the index and the bytes of the message buffer that are lent.
     pub lent: [usize; 2],
     pub input: Vec<u8>,
@@ -52,6 +54,7 @@ fn item(block: &str) -> Item {
     for line in block.lines() {
         let (word, rest) = line.split_once(' ').unwrap_or((line, ""));
         match word {
+            "vector" | "call" => item.title = line.to_string(),
             "input" => item.input = bytes(rest),
             "lent" => lent = Some(pair(rest)),
             "line" => item.lines.push(unescaped(rest)),
