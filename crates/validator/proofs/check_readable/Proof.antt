@@ -6,31 +6,31 @@ use Rattle.validator.proofs.check_readable.Statement.{statement}
 use Rattle.validator.proofs.check_readable.Tie as tie
 
 mul-if1 : tie.Need-mul-if1
-mul-if1 c = omega (arith, trailer-at (c .before .before .before .before .args .file .now) (c .before .before .before .before .pre) .1)
+mul-if1 c = omega (arith, trailer-at _ (c .before .before .before .before .pre) .1)
 
 returns : tie.Need-returns
-returns c = short-index (c .before .before .before .before .before .args .file .now) (c .before .before .before .before .before .pre) _ _ (c .if1 .taken)
+returns c = short-index _ (search needs) _ _ (search needs)
 
 returns-2 : tie.Need-returns-2
-returns-2 c = short-message (c .before .before .before .before .before .before .args .file .now) (c .before .before .before .before .before .before .pre) _ _ (c .before .if1 .left) (c .if2 .taken)
+returns-2 c = short-message _ (search needs) _ _ (search needs) (search needs)
 
 check-short-requires : tie.Need-check-short-requires
-check-short-requires c κs = (c .before .before .before .before .before .before .before .before .before .pre, (c .before .before .before .before .if1 .left, c .before .before .before .if2 .left))
+check-short-requires c κs = (search needs, (search needs, search needs))
 
 returns-3 : tie.Need-returns-3
-returns-3 c = long-enough (c .before .before .before .before .before .before .before .before .before .before .before .before .before .before .args .file .now) (c .before .before .before .before .before .before .before .before .before .before .before .before .before .before .pre) _ _ (c .before .before .before .before .before .before .before .before .before .if1 .left) (c .before .before .before .before .before .before .before .before .if2 .left) (c .before .before .before .before .check-short .ensures)
+returns-3 c = long-enough _ (search needs) _ _ (search needs) (search needs) (search needs)
 
 check-middling-requires : tie.Need-check-middling-requires
-check-middling-requires c κs = (c .before .before .before .before .before .before .before .before .before .before .pre, (c .before .before .before .before .before .if1 .left, c .before .before .before .before .if2 .left))
+check-middling-requires c κs = (search needs, (search needs, search needs))
 
 returns-4 : tie.Need-returns-4
-returns-4 c = long-enough (c .before .before .before .before .before .before .before .before .before .before .before .before .before .before .before .args .file .now) (c .before .before .before .before .before .before .before .before .before .before .before .before .before .before .before .pre) _ _ (c .before .before .before .before .before .before .before .before .before .before .if1 .left) (c .before .before .before .before .before .before .before .before .before .if2 .left) (c .before .before .before .before .check-middling .ensures)
+returns-4 c = long-enough _ (search needs) _ _ (search needs) (search needs) (search needs)
 
 check-long-requires : tie.Need-check-long-requires
-check-long-requires c κs = (c .before .before .before .before .before .before .before .before .before .before .pre, (c .before .before .before .before .before .if1 .left, c .before .before .before .before .if2 .left))
+check-long-requires c κs = (search needs, (search needs, search needs))
 
 returns-5 : tie.Need-returns-5
-returns-5 c = long-enough (c .before .before .before .before .before .before .before .before .before .before .before .before .before .before .before .args .file .now) (c .before .before .before .before .before .before .before .before .before .before .before .before .before .before .before .pre) _ _ (c .before .before .before .before .before .before .before .before .before .before .if1 .left) (c .before .before .before .before .before .before .before .before .before .if2 .left) (c .before .before .before .before .check-long .ensures)
+returns-5 c = long-enough _ (search needs) _ _ (search needs) (search needs) (search needs)
 
 pub check-readable-spec : {M : Type 1} → statement M
 check-readable-spec =
