@@ -1,4 +1,4 @@
-//! The compiled program, where it is built, on the stored list: every form of its line is a stored run.
+//! The compiled program on the stored list: every form of its line is a stored run.
 
 use differential::limits::file_of_length;
 use differential::second;
@@ -6,19 +6,14 @@ use differential::stored::replay::{self, Item};
 use differential::subject::{Observed, Program, Subject};
 use differential::vectors::LONGEST_INPUT;
 use std::collections::BTreeSet;
-use std::io::Write;
 
 /// The number of rules.
 const RULES: u8 = 15;
 
-/// The program; without one the test says on standard error that it did not run, past what cargo captures.
-fn program(test: &str) -> Option<Program> {
-    let program = Program::find().unwrap();
-    if program.is_none() {
-        let said = format!("{test} DID NOT RUN: no INK_CHECK, no program built\n");
-        std::io::stderr().write_all(said.as_bytes()).unwrap();
-    }
-    program
+/// The program; without one the tests fail, since they would show nothing.
+fn program() -> Program {
+    let found = Program::find().unwrap();
+    found.expect("no program: `rt check ink_check` builds it, or INK_CHECK names one")
 }
 
 /// The stored checks of a kind, `vector` or `call`.
@@ -48,9 +43,7 @@ fn form(output: &[u8]) -> String {
 
 #[test]
 fn the_program_prints_every_stored_line_and_these_are_of_every_form() {
-    let Some(mut program) = program("the replay of the stored list") else {
-        return;
-    };
+    let mut program = program();
     let mut forms = BTreeSet::new();
     let mut wrong = Vec::new();
     for item in stored("vector") {
@@ -72,9 +65,7 @@ fn the_program_prints_every_stored_line_and_these_are_of_every_form() {
 /// Refusals 7 and 8 are for lent buffers: the program's own are long enough for all that it reads.
 #[test]
 fn the_program_refuses_nothing_for_its_own_buffers() {
-    let Some(mut program) = program("the replay of the calls") else {
-        return;
-    };
+    let mut program = program();
     let mut lent = BTreeSet::new();
     for item in stored("call") {
         lent.insert(form(&item.lines[0]));
@@ -91,9 +82,7 @@ fn the_program_refuses_nothing_for_its_own_buffers() {
 
 #[test]
 fn the_program_refuses_inputs_that_are_too_long() {
-    let Some(mut program) = program("the test of long inputs") else {
-        return;
-    };
+    let mut program = program();
     let behind = [file_of_length(LONGEST_INPUT), vec![0]].concat();
     let files = [LONGEST_INPUT + 1, 2 * LONGEST_INPUT, 200_000].map(file_of_length);
     for file in files.into_iter().chain([behind]) {
