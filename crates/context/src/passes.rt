@@ -1,9 +1,13 @@
 // The steps that go along a body: one loop over its items, for every step.
 ghost use mathlib.Core.Path.{_≡_};
+ghost use mathlib.Core.Bool.{false};
+ghost use mathlib.Core.List.{List};
 ghost use Prim.Native.Nat.{_+_, _≤_};
 ghost use lib.ListN.{length, take};
-ghost use Rattle.story.specs.Story.{whats};
+ghost use Rattle.story.specs.Story.{What, whats};
+ghost use Rattle.rules.specs.Rules.{Known, Here};
 ghost use Rattle.bodies.specs.Bodies.{bodyIn, Range, Fetched};
+ghost use Rattle.checks.specs.declared.Judged.the-variants as Judged;
 ghost use Rattle.checks.specs.Judged.{judgedBy};
 ghost use Rattle.checks.specs.Context.{Ready, ScopeReady, Sorted, knownIn, hereAt, whatAt};
 ghost use Rattle.filters.specs.Names.{Declared, Gathered};
@@ -12,7 +16,14 @@ ghost use Rattle.context.specs.Scopes.{Held, Walked, Cleared, Passed};
 use crate::Found;
 use crate::Pass;
 use crate::breaches::breach_at;
+use bodies::items::ARGUMENT;
+use bodies::items::CALL;
+use bodies::items::CHOICE;
+use bodies::items::DIVERT;
+use bodies::items::GATHER;
 use bodies::items::PLAIN;
+use bodies::items::TEMP;
+use bodies::items::VARIABLE;
 use bodies::items::named_at;
 use bodies::items::sort_at;
 use bodies::windows::count_items;
@@ -25,6 +36,8 @@ use checks::diverts::validate_node_function_calls;
 use checks::diverts::validate_node_variable_divert_target;
 use checks::structure::check_function_body_purity;
 use checks::structure::check_no_direct_choice_in_branch;
+use checks::structure::has_target;
+use checks::structure::is_sort;
 use checks::structure::validate_temp_name;
 use filters::declared::validate_node_vars;
 use filters::gathers::check_gather_label;
@@ -94,6 +107,75 @@ fn judge(
         Pass::Gathers => check_gather_label(file, scope.from, scope.to, slot, gathers, scratch),
         Pass::Purity => check_function_body_purity(file, slot),
     }
+}
+
+// The pass tests items of such a sort. Where it does not, the item breaks no rule of it.
+fn is_concerned(pass: Pass, file: &[u8], slot: Slot) -> bool
+    requires { ⌜ Sorted (now file) slot ⌝ }
+    ensures { λ r. ⌜ (r ≡ false → (k : Known) (h : Here) (before : List What) → Judged.Fine ≡ judgedBy k h (rulesOf pass) before (whatAt (now (file .entry)) slot)) ⌝ }
+{
+    match pass {
+        Pass::Temps => is_sort(file, slot, TEMP),
+        Pass::Targets => has_target(file, slot),
+        Pass::Calls => is_sort(file, slot, CALL),
+        Pass::Choices => is_sort(file, slot, CHOICE),
+        Pass::VariableDiverts => {
+            if has_target(file, slot) {
+                return true;
+            }
+            is_sort(file, slot, ARGUMENT)
+        }
+        Pass::Variables => is_sort(file, slot, VARIABLE),
+        Pass::Gathers => is_sort(file, slot, GATHER),
+        Pass::Purity => {
+            if is_sort(file, slot, CHOICE) {
+                return true;
+            }
+            is_sort(file, slot, DIVERT)
+        }
+    }
+}
+
+// The rule of the pass that an item breaks first, which is judged only where the pass is concerned.
+fn judge_item(
+    pass: Pass,
+    file: &[u8],
+    c: Sections,
+    index: &[u32],
+    count: usize,
+    functions: &[u32],
+    hints: &[u32],
+    scope: ScopeView,
+    slot: Slot,
+    declared: &[u8],
+    gathers: &[u8],
+    scratch: &mut [u32],
+) -> Judged
+    requires { ⌜ Ready (now file) c (now index) count (now functions) ⌝ }
+    requires { ⌜ ScopeReady (now file) scope ⌝ }
+    requires { ⌜ 2 ≤ length (now scratch) ⌝ }
+    requires { ⌜ Sorted (now file) slot ⌝ }
+    requires { ⌜ Declared (now file) (scope .outer) (scope .body) (scope .stitches) (now declared) ⌝ }
+    requires { ⌜ Gathered (now file) (scope .from) (scope .to) (slot .number) (now gathers) ⌝ }
+    ensures { λ r. ⌜ r ≡ judgedBy (knownIn c (now (file .entry))) (hereAt (now (file .entry)) scope) (rulesOf pass) (take (slot .number) (whats (bodyIn (now (file .entry)) (scope .from) (scope .to)))) (whatAt (now (file .entry)) slot) ⌝ }
+{
+    if is_concerned(pass, file, slot) {
+        return judge(
+            pass,
+            file,
+            c,
+            index,
+            count,
+            functions,
+            hints,
+            scope,
+            slot,
+            declared,
+            gathers,
+            scratch,
+        );
+    }
+    Judged::Fine
 }
 
 // The first window of the body again, after one that begins at item number `skip`.
@@ -199,7 +281,7 @@ fn is_item_clear(
     let mut pass = first;
     let mut left = many;
     while 0 < left {
-        let judged = judge(
+        let judged = judge_item(
             pass_at(pass),
             file,
             c,
