@@ -100,15 +100,15 @@ fn assigned_sort(payload: &[u8]) -> u8
     PLAIN
 }
 
-// The sort of a node.
-fn node_sort(kind: u8, payload: &[u8]) -> u8
-    ensures { λ r. ⌜ r ≡ code (getD (nodeSorts (now (payload .entry))) kind Kind.plain) ⌝ }
+// The sort of a node whose kind byte stands at the place.
+fn node_sort(kind: u8, file: &[u8], place: usize) -> u8
+    ensures { λ r. ⌜ r ≡ code (getD (nodeSorts (payloadAt (now (file .entry)) place)) kind Kind.plain) ⌝ }
 {
     match kind {
         3 => DIVERT,
         4 => TUNNEL,
         5 => THREAD,
-        13 => assigned_sort(payload),
+        13 => assigned_sort(payload_at(file, place)),
         14 => CHOICE,
         15 => GATHER,
         16 => CALL,
@@ -147,13 +147,13 @@ fn argument_sort(kind: u8) -> u8
     }
 }
 
-// The sort of a record by its role, its kind and its payload.
-fn sort_of(role: Role, kind: u8, payload: &[u8]) -> u8
-    ensures { λ r. ⌜ r ≡ code (sortOf role kind (now (payload .entry))) ⌝ }
+// The sort of the record at the place by its role and its kind; the payload is read for an assignment only.
+fn sort_of(role: Role, kind: u8, file: &[u8], place: usize) -> u8
+    ensures { λ r. ⌜ r ≡ code (sortOf role kind (payloadAt (now (file .entry)) place)) ⌝ }
 {
     match role {
-        Role::Node => node_sort(kind, payload),
-        Role::Branch => node_sort(kind, payload),
+        Role::Node => node_sort(kind, file, place),
+        Role::Branch => node_sort(kind, file, place),
         Role::Cond => cond_sort(kind),
         Role::Visited => expr_sort(kind),
         Role::Argument => argument_sort(kind),
@@ -165,8 +165,7 @@ fn sort_of(role: Role, kind: u8, payload: &[u8]) -> u8
 pub fn sort_at(file: &[u8], place: usize, tag: u32) -> u8
     ensures { λ r. ⌜ r ≡ code (itemFrom (now (file .entry)) place tag .what .kind) ⌝ }
 {
-    let payload = payload_at(file, place);
-    sort_of(role_from(tag / 256), (tag % 256) as u8, payload)
+    sort_of(role_from(tag / 256), (tag % 256) as u8, file, place)
 }
 
 // Where in the payload of an item of the sort its name begins.

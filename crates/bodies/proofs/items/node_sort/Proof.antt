@@ -1,8 +1,12 @@
 -- `node_sort`: each arm is an entry of the table, and every other is plain. Assumes nothing.
+use Rattle.bodies.specs.Records.{payloadAt}
 use Rattle.bodies.proofs.Sorts.{node-plain}
 use borrow.Author.Needs.{needs}
 use Rattle.bodies.proofs.items.node_sort.Statement.{statement}
 use Rattle.bodies.proofs.items.node_sort.Tie as tie
+
+payload-at-requires : tie.Need-payload-at-requires
+payload-at-requires c κs = search needs
 
 assigned-sort-requires : tie.Need-assigned-sort-requires
 assigned-sort-requires c κs = search needs
@@ -17,7 +21,7 @@ returns-3 : tie.Need-returns-3
 returns-3 c = search needs
 
 returns-4 : tie.Need-returns-4
-returns-4 c = rw (c .before .match .keys4) (c .assigned-sort .ensures)
+returns-4 c = rw (c .before .before .match .keys4, ← c .before .payload-at .ensures) (c .assigned-sort .ensures)
 
 returns-5 : tie.Need-returns-5
 returns-5 c = search needs
@@ -29,12 +33,15 @@ returns-7 : tie.Need-returns-7
 returns-7 c = search needs
 
 returns-8 : tie.Need-returns-8
-returns-8 c = node-plain (c .before .before .args .payload .now) (c .before .before .args .kind) (c .match .rest)
+returns-8 c =
+    let start = c .before .before in
+    node-plain (payloadAt (start .args .file .now) (start .args .place)) (start .args .kind) (c .match .rest)
 
 pub node-sort-spec : {M : Type 1} → statement M
 node-sort-spec =
     tie.close
     (tie.spec
+    payload-at-requires
     assigned-sort-requires
     returns
     returns-2

@@ -4,9 +4,6 @@ use borrow.Author.Needs.{needs}
 use Rattle.bodies.proofs.items.sort_at.Statement.{statement}
 use Rattle.bodies.proofs.items.sort_at.Tie as tie
 
-payload-at-requires : tie.Need-payload-at-requires
-payload-at-requires c κs = search needs
-
 role-from-requires : tie.Need-role-from-requires
 role-from-requires c κs = search needs
 
@@ -17,9 +14,9 @@ sort-of-requires : tie.Need-sort-of-requires
 sort-of-requires c κs = search needs
 
 returns : tie.Need-returns
-returns c = rw (item-sort, ← c .before .role-from .ensures, ← c .before .before .payload-at .ensures) (c .sort-of .ensures)
+returns c = rw (item-sort, ← c .before .role-from .ensures) (c .sort-of .ensures)
 
 pub sort-at-spec : {M : Type 1} → statement M
 sort-at-spec =
     tie.close
-    (tie.spec payload-at-requires role-from-requires cast-sort-of sort-of-requires returns)
+    (tie.spec role-from-requires cast-sort-of sort-of-requires returns)
