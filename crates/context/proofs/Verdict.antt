@@ -87,19 +87,6 @@ unfolding foundRuns orElse
 runs-append s [] vs = refl
 runs-append s (u ∷ us) vs = rw (runs-append s us vs) (sym (or-assoc (foundIn s (u .scope) (bracket (u .step)) (u .items)) (foundRuns s us) (foundRuns s vs)))
 
-pub runs-each : {A : Type 0} (s : Story) (f : A → List Run) (x : A) (xs : List A)
-    → foundRuns s (each f (x ∷ xs)) ≡ orElse (foundRuns s (f x)) (foundRuns s (each f xs))
-runs-each s f x xs = runs-append s (f x) (each f xs)
-
-pub runs-over : (s : Story) (scope : Scope) (items : List Item) (step : Step) (steps : List Step)
-    → foundRuns s (over scope items (step ∷ steps)) ≡ orElse (foundIn s scope (bracket step) items) (foundRuns s (over scope items steps))
-unfolding foundRuns over
-runs-over s scope items step steps = refl
-
-pub runs-none : (s : Story) (scope : Scope) (items : List Item) → foundRuns s (over scope items []) ≡ found.Clear
-unfolding foundRuns over
-runs-none s scope items = refl
-
 pub runs-one : (s : Story) (scope : Scope) (items : List Item) (step : Step)
     → foundRuns s (over scope items (step ∷ [])) ≡ foundIn s scope (bracket step) items
 unfolding foundRuns over

@@ -1,6 +1,6 @@
 -- Demand 3's order law: of two stories alike in all but order both are accepted or both are found in breach: `order-law`.
 -- Every test on a story is an `any` over its lists, so alike stories have the same tests. Assumes nothing.
-use mathlib.Core.Path.{_≡_, refl, sym, _∙_, ap, ap₂}
+use mathlib.Core.Path.{_≡_, refl, sym, _∙_, ap₂}
 use mathlib.Core.Bool.{Bool, true, false, _||_, and-true, true≢false}
 use mathlib.Core.List.{List, [], _∷_, _++_, map}
 use mathlib.Core.Logic.{_↔_}
@@ -9,7 +9,7 @@ use Rattle.names.specs.Words.{Bytes, same, any, ends}
 use Rattle.story.specs.Story.{Name, Kind, parameter, stitchName, flowStart, What, Item, Stitch, Flow, Story, words, whats}
 use Rattle.rules.specs.Rules.{Known, Here, known, labelIn, tempIn, knotLabel, Scope, root, knot, stitch, here}
 use Rattle.rules.specs.Steps.{Visit, visits, Step, s5, s6, s12, s19, s20, bracket, rootSteps, flowSteps, stitchSteps, Run, over, paramItems, purityItems, stitchRuns, flowRuns, runs, Breach, breaks, breaches, first, verdict}
-use Rattle.rules.specs.Alike.{Paired, AlikeStitch, AlikeFlow, Alike, Shuffled, AlikeShuffled}
+use Rattle.rules.specs.Alike.{AlikeStitch, AlikeFlow, Alike, Shuffled, AlikeShuffled}
 use Rattle.names.proofs.Any.{any-append, any-only, any-each, any-same}
 use Rattle.rules.proofs.Paired.{paired-eq, paired-weaken, any-numbered, any-paired, any-often}
 use Rattle.rules.proofs.Shuffle.{stepFinds, step-shuffled}

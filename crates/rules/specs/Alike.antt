@@ -4,7 +4,7 @@ use mathlib.Core.Bool.{Bool, true, false}
 use mathlib.Core.List.{List, [], _∷_, _++_}
 use Prim.Native.Nat.{ℕ, suc}
 use Rattle.names.specs.Words.{Bytes, same}
-use Rattle.story.specs.Story.{Name, What, Item, Stitch, Flow, Story, words, whats}
+use Rattle.story.specs.Story.{What, Stitch, Flow, Story, words, whats}
 
 -- how often a word stands in a list
 abbrev pub more : Bool → ℕ → ℕ

@@ -1,7 +1,7 @@
 -- The names of a readable file in file order: they rise, lie before the trailer, and are what the file has at their places. Assumes nothing.
 use mathlib.Core.Path.{_≡_, refl, sym, _∙_, ap}
 use mathlib.Core.List.{List, [], _∷_, _++_, map, List·Memᴰ, List·Memᴰ·not-nil, List·Memᴰ·cases-cons, List·Memᴰ·append-cases, List·Memᴰ·eq-of-singleton, Memᴰ·of-map}
-use mathlib.Core.Bool.{true, false}
+use mathlib.Core.Bool.{true}
 use mathlib.Core.Logic.{⊎-elim}
 use Prim.Native.Nat.{ℕ, zero, suc, _+_, _-_, _≤_, _<_}
 use native.Mathlib.Omega.{arith}
@@ -12,7 +12,6 @@ use Rattle.fields.specs.declared.Span.the-variants as span
 use Rattle.fields.specs.Bytes.{listOf}
 use Rattle.fields.proofs.Laws.{list-fits}
 use Rattle.names.specs.Words.{Sorted, only, each}
-use Rattle.names.specs.Counted.{nameAt}
 use Rattle.names.proofs.Bools.{is-true}
 use Rattle.names.proofs.Lists.{of-only, of-each, sorted-append, sorted-each, sorted-only}
 use Rattle.records.specs.Trace.{Record, met, Ending, well, refused, ends}
@@ -32,7 +31,7 @@ use Rattle.story.proofs.Readable.{Readable, piece-first, piece-rest, fl
 use Rattle.story.proofs.Parts.{counted-part}
 use Rattle.story.proofs.Places.{NameBefore, name-within, names-rise, counted-rise, item-of}
 use Rattle.story.proofs.WellInside.{Apart, records-apart}
-use Rattle.story.proofs.Named.{Lies, lies-in-file, lies-at, lies-drop, lies-take, lies-part, AsFile, names-as-file, counted-as-file, name-in-lies, named-near, bare, item-as-file, label-as-file}
+use Rattle.story.proofs.Named.{Lies, lies-in-file, lies-at, lies-drop, lies-take, lies-part, AsFile, names-as-file, counted-as-file, name-in-lies, named-near, label-as-file}
 
 -- 1. Names between two places of a file
 
@@ -229,46 +228,6 @@ module _ {file : List ℕ} (p : ℕ) (u : List ℕ) (l : Lies file (p + 4) u) wh
       (own-append {mid = p + (5 + h .end)} _ _ (omega arith) (omega arith) (own-wider (omega arith) (omega arith) title)
       (own-wider (omega arith) (omega (arith, length-drop (1 + h .end) u)) stitches))
 
--- a title's names and its items' names are what the file has at their places
-pub record TitleNamed (file : List ℕ) (n : Name) (ps qs : List Name) (items : List Item) : Type 0 where
-  pub name : AsFile file n
-  pub params : (m : Name) → List·Memᴰ m ps → AsFile file m
-  pub marks : (m : Name) → List·Memᴰ m qs → AsFile file m
-  pub body : (i : Item) → List·Memᴰ i items → bare (i .what) ≡ false → i .what .name ≡ nameAt file (i .named)
-
-abbrev pub StitchNamed : List ℕ → Stitch → Type 0
-StitchNamed file t = TitleNamed file (t .name) (t .params) (t .marks) (t .body)
-
-pub record FlowNamed (file : List ℕ) (f : Flow) : Type 0 where
-  pub own : TitleNamed file (f .name) (f .params) (f .marks) (f .body)
-  pub stitches : (t : Stitch) → List·Memᴰ t (f .stitches) → StitchNamed file t
-
-title-named : {file : List ℕ} {at : ℕ} {k : Reading} {h : Heading} {s : List ℕ} → Lies file at s → TitledWell k h s
-    → TitleNamed file (record { at = at; bytes = nameIn s }) (countedIn (at + h .params) (drop (h .params) s)) (countedIn (at + h .marks) (drop (h .marks) s)) (itemsIn (at + h .nodes) (part (h .nodes) (h .end) s))
-title-named {h = h} l w = record {
-  name = name-in-lies l (h .params - 1, w .laid .name-read);
-  params = counted-as-file l (h .params) (w .laid .params-read);
-  marks = counted-as-file l (h .marks) (w .laid .marks-read);
-  body = λ i m b. item-as-file (lies-part l (h .nodes) (h .end)) (w .nodes) i m b .name;
-}
-
-stitch-named : {file : List ℕ} (p : ℕ) (u : List ℕ) → Lies file (p + 4) u → ends (stitch u) ≡ well → StitchNamed file (stitchIn p u)
-unfolding stitchIn
-stitch-named p u l good =
-    let d = titled-heading ending u (stitch-titled u good) in rw (titled-in (p + 4) u (d .0) refl (d .1 .told)) (title-named l (d .1))
-
-flow-named : {file : List ℕ} (p : ℕ) (u : List ℕ) → Lies file (p + 4) u → ends (flow u) ≡ well → FlowNamed file (flowIn p u)
-flow-named {file} p u l good =
-    let f = flow-titled u good in
-    let d = titled-heading (repeat (piece stitch)) (drop 1 u) (f .1) in
-    let h = d .0 in
-    let begin : p + 4 + 1 ≡ p + 5 = omega arith in
-    let after : p + 4 + (1 + h .end) ≡ p + (5 + h .end) = omega arith in
-    rw (flow-in p u h refl (d .1 .told)) (record {
-      own = title-named (lies-at (lies-drop l 1) begin) (d .1);
-      stitches = pieces-each stitch stitchIn (StitchNamed file) stitch-named (drop (1 + h .end) u) (lies-at (lies-drop l (1 + h .end)) after) (rw (drop-drop (h .end) 1 u) at (d .1 .rest));
-    })
-
 -- 4. A readable file
 
 part-length : (a b : ℕ) (s : List ℕ) → a ≤ b → b ≤ length s → length (part a b s) ≡ b - a
@@ -282,10 +241,6 @@ module _ (c : Sections) (s : List ℕ) (r : Readable c s) where
   pub globals-own : Own s 0 (c .externals) (storyIn c s .globals)
   unfolding storyIn
   globals-own = section (omega arith) (omega (arith, r .order)) (names-own (lies-in-file s 0 (c .externals)) (r .globals))
-
-  pub externals-own : Own s (c .externals) (c .root) (storyIn c s .externals)
-  unfolding storyIn
-  externals-own = section (r .order .externals) (omega (arith, r .order)) (names-own (lies-in-file s (c .externals) (c .root)) (r .externals))
 
   pub root-own : Own s (c .root) (c .flows) (labelNames (storyIn c s .root))
   unfolding storyIn
@@ -302,12 +257,3 @@ module _ (c : Sections) (s : List ℕ) (r : Readable c s) where
   story-own =
       own-append _ _ (omega arith) (r .order .flows)
       (own-append {mid = c .root} _ _ (omega arith) (r .order .root) (own-wider (omega arith) (r .order .externals) globals-own) root-own) flows-own
-
-  pub root-named : (i : Item) → List·Memᴰ i (storyIn c s .root) → bare (i .what) ≡ false → i .what .name ≡ nameAt s (i .named)
-  unfolding storyIn
-  root-named i m b = item-as-file (lies-in-file s (c .root) (c .flows)) (r .root) i m b .name
-
-  pub flows-named : (f : Flow) → List·Memᴰ f (storyIn c s .flows) → FlowNamed s f
-  unfolding storyIn flowsIn
-  flows-named f m =
-      pieces-each flow flowIn (FlowNamed s) flow-named (part (c .flows) (c .end) s) (lies-in-file s (c .flows) (c .end)) (sym (flows-pieces (part (c .flows) (c .end) s)) ∙ r .flows) f m

@@ -19,7 +19,7 @@ use Rattle.story.specs.declared.HeadingRead.the-variants as heading
 use Rattle.story.specs.Story.{Name, Item, Stitch, Flow}
 use Rattle.story.specs.Items.{itemAs, itemOf, itemsAs, itemsIn}
 use Rattle.story.specs.Headings.{headingOf}
-use Rattle.story.specs.Flows.{namesN, namesIn, countedIn, titledAt, titledIn, piecesAt, piecesN, piecesIn, stitchIn, stitchesFrom, flowIn, flowsIn, part}
+use Rattle.story.specs.Flows.{namesN, countedIn, titledAt, titledIn, piecesAt, piecesN, piecesIn, stitchIn, stitchesFrom, flowIn, flowsIn, part}
 use Rattle.story.specs.File.{storyIn}
 
 -- one item before another, and one name before another
@@ -48,10 +48,6 @@ unfolding namesN
 names-rise zero at s = tt
 names-rise (suc n) at [] = tt
 names-rise (suc n) at (x ∷ s) = (λ m i. omega (arith, name-within n (at + (1 + x)) (drop x s) m i), names-rise n (at + (1 + x)) (drop x s))
-
-pub names-in-rise : (at : ℕ) (s : List ℕ) → Sorted NameBefore (namesIn at s)
-unfolding namesIn
-names-in-rise at s = names-rise (length s) at s
 
 pub counted-rise : (at : ℕ) (s : List ℕ) → Sorted NameBefore (countedIn at s)
 unfolding countedIn

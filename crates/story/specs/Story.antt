@@ -1,8 +1,8 @@
 -- A readable story, as its reader gives it: names, and for each body one item for each record, in file order, at all depths.
 -- A record has at most one name. `What` has no places, so that two bodies of equal bytes are equal lists of `What`.
 -- Assumes nothing.
-use mathlib.Core.Bool.{Bool, true, false}
-use mathlib.Core.List.{List, [], _∷_, map}
+use mathlib.Core.Bool.{Bool}
+use mathlib.Core.List.{List, map}
 use Prim.Native.Nat.{ℕ}
 use lib.Dec.{eqb}
 use Rattle.names.specs.Words.{Bytes}

@@ -1,5 +1,5 @@
 -- The own names of the entries are those of the story, in file order: they rise, and so there are few. Assumes nothing.
-use mathlib.Core.Path.{_≡_, refl, sym, _∙_, ap}
+use mathlib.Core.Path.{_≡_, refl, _∙_, ap}
 use mathlib.Core.Bool.{Bool, true, false}
 use mathlib.Core.List.{List, [], _∷_, _++_, map, List·Memᴰ, List·Memᴰ·head, List·Memᴰ·tail}
 use mathlib.Core.Option.{Option, none, some}
@@ -12,7 +12,7 @@ use Rattle.story.specs.Story.{Name, Item, Stitch, Flow, Story}
 use Rattle.story.specs.File.{storyIn}
 use Rattle.story.proofs.Readable.{Readable}
 use Rattle.story.proofs.Places.{NameBefore}
-use Rattle.story.proofs.Owned.{Own, labelName, labelNames, stitchNames, flowNames, ownNames, story-own}
+use Rattle.story.proofs.Owned.{Own, labelNames, stitchNames, flowNames, ownNames, story-own}
 use Rattle.symbols.specs.Index.{Entry, alone, nameOf, labelled, prefix, stitchEntries, flowEntries, entries}
 use Rattle.symbols.specs.Numbers.{st, storeAll}
 use Rattle.symbols.specs.Placed.{placed, indexOf}

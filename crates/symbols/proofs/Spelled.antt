@@ -4,9 +4,9 @@ use mathlib.Core.List.{List, [], _∷_, _++_, map, List·Memᴰ·head, List·Mem
 use mathlib.Core.Logic.{⊎-elim, _↔_}
 use mathlib.Core.Option.{Option, none, some}
 use lib.Dec.{T}
-use Rattle.names.specs.Words.{Bytes, only, each, _∈_}
+use Rattle.names.specs.Words.{Bytes, each, _∈_}
 use Rattle.names.proofs.Lists.{in-only, of-only, in-each, Every, every-append, every-each}
-use Rattle.story.specs.Story.{Name, What, Item, Stitch, Flow, Story, words, whats}
+use Rattle.story.specs.Story.{Name, What, Item, Stitch, Flow, Story, words}
 use Rattle.symbols.specs.Index.{Entry, dotted, spelling, alone, nameOf, labelled, prefix, stitchEntries, flowEntries, entries, spellings}
 use Rattle.symbols.specs.Spelled.{LabelIn, Spelled, global, root-label, flow, flow-parameter, flow-label, nameless-flow-label, stitch, stitch-parameter, stitch-label}
 

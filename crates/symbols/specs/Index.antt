@@ -1,12 +1,8 @@
 -- The index: its entries in order, and how each is spelled. Assumes nothing.
-use mathlib.Core.Path.{_≡_}
-use mathlib.Core.Bool.{Bool, true, false}
 use mathlib.Core.List.{List, [], _∷_, _++_, map}
 use mathlib.Core.Option.{Option, none, some}
-use Prim.Native.Nat.{ℕ}
-use lib.Dec.{T}
-use Rattle.names.specs.Words.{Bytes, only, each, _∈_}
-use Rattle.story.specs.Story.{Name, What, Item, Stitch, Flow, Story, whats}
+use Rattle.names.specs.Words.{Bytes, only, each}
+use Rattle.story.specs.Story.{Name, Item, Stitch, Flow, Story}
 
 -- an entry: flow, stitch, own name, where `none` is written 4,294,967,295 and a name as the place of its count byte
 pub record Entry : Type 0 where

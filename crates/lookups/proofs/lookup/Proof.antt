@@ -1,5 +1,5 @@
 -- `lookups::lookup` meets its contract: refused, refused for the index, or looked up in the index just written. Assumes nothing.
-use mathlib.Core.Path.{_≡_, sym, _∙_}
+use mathlib.Core.Path.{sym, _∙_}
 use native.Mathlib.Omega.{arith}
 use Rattle.story.proofs.Readable.{readable}
 use Rattle.lookups.proofs.Answers.{looked-refused, looked-short, looked-up}

@@ -1,7 +1,7 @@
 -- `symbols::entries::collect_labels_from_nodes` meets its contract. The loop's invariant: what is left to be stored are the labels
 -- from item number `i` on, and the buffer has a window that begins no later. Assumes nothing.
 use mathlib.Core.Path.{_≡_}
-use Prim.Native.Nat.{_≤_, _-_, _*_, _+_}
+use Prim.Native.Nat.{_≤_, _-_, _*_}
 use native.Mathlib.Omega.{arith}
 use lib.ListN.{length, drop}
 use Rattle.bodies.specs.Bodies.{bodyIn, Fetched}

@@ -1,6 +1,6 @@
 -- `symbols::entries::put_flows` meets its contract. The loop's invariant: what is left to be stored are the flows from `at` on,
 -- and they can be read. Assumes nothing.
-use mathlib.Core.Path.{_≡_, ap, refl, _∙_}
+use mathlib.Core.Path.{_≡_, refl}
 use Prim.Native.Nat.{_≤_, _-_}
 use native.Mathlib.Omega.{arith}
 use lib.ListN.{length}

@@ -1,5 +1,5 @@
 -- `symbols::entries::put_names` meets its contract. The loop's invariant: what is left to be stored are the names from `at` on. Assumes nothing.
-use mathlib.Core.Path.{_≡_, refl, _∙_, ap}
+use mathlib.Core.Path.{_≡_, refl}
 use native.Mathlib.Omega.{arith}
 use lib.ListN.{length}
 use Rattle.story.specs.Flows.{namesN, part}

@@ -1,5 +1,5 @@
 -- `symbols::entries::write_index` meets its contract: globals, labels of the root and flows are stored in order. Assumes nothing.
-use mathlib.Core.Path.{_≡_, refl}
+use mathlib.Core.Path.{refl}
 use native.Mathlib.Omega.{arith}
 use Rattle.story.specs.File.{storyIn}
 use Rattle.story.proofs.Readable.{readable}
