@@ -29,20 +29,11 @@ use Rattle.searches.proofs.Viewed.{FlowLaid, flow-laid, StitchLaid, stitch-laid
 use Rattle.searches.proofs.Readable.{flow-readable, no-flow}
 use Rattle.bodies.specs.Bodies.{bodyIn, Range}
 use Rattle.rules.specs.Rules.{Here, here, root, knot, stitch}
+use Rattle.rules.proofs.Order.{same-here}
 use Rattle.checks.specs.Context.{countedAt, stitchLabel, declaredAt, hereAt, StitchesReady, ScopeReady}
 use Rattle.context.specs.Scopes.{rootView, knotView, stitchView, FlowReady, StitchReady, FlowsReady}
 
 -- 1. The same names
-
-same-here : (h k : Here) → ((n : Bytes) → h .param n ≡ k .param n) → ((n : Bytes) → h .mark n ≡ k .mark n)
-    → ((n : Bytes) → h .label n ≡ k .label n) → ((n : Bytes) → h .forbidden n ≡ k .forbidden n) → h .stitched ≡ k .stitched → h ≡ k
-same-here h k a b c d e = λ i. record {
-  param = λ n. a n i;
-  mark = λ n. b n i;
-  label = λ n. c n i;
-  forbidden = λ n. d n i;
-  stitched = e i;
-}
 
 -- nothing is declared in the knot and not declared there
 never-both : (b : Bool) → false ≡ b && not b

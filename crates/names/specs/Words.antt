@@ -4,6 +4,7 @@ use mathlib.Core.List.{List, [], _∷_, _++_, List·Memᴰ}
 use Prim.Native.Nat.{ℕ}
 use lib.Dec.{eqb}
 
+-- a name or another word, as bytes
 abbrev pub Bytes : Type 0
 Bytes = List ℕ
 

@@ -39,6 +39,7 @@ story globals root flows = record { globals = globals; externals = []; root = ro
 rule : Story → ℕ
 rule s = elim (verdict s) [ none ↦ 0 | some b ↦ number (b .rule) ]
 
+-- the names that occur
 abbrev a : Bytes
 a = 97 ∷ []
 
@@ -57,6 +58,7 @@ t = 116 ∷ []
 abbrev x : Bytes
 x = 120 ∷ []
 
+-- a story, and the rule that the verdict names: 0 where it is accepted
 record Row : Type 0 where
   given : Story
   expected : ℕ

@@ -11,13 +11,13 @@ use Rattle.fields.specs.declared.NameRead.the-variants as name
 use Rattle.fields.specs.Bytes.{nameOf}
 use Rattle.fields.proofs.Laws.{name-fits}
 use Rattle.names.specs.Counted.{nameAt}
+use Rattle.records.proofs.Places.{drop-take}
 use Rattle.story.specs.declared.Reach.the-variants as reach
 use Rattle.story.specs.Headings.{reachAt, namesReach, countedReach}
 use Rattle.story.specs.Items.{nameIn}
 use Rattle.story.specs.Flows.{namesN, countedIn, part}
 use Rattle.story.proofs.Reaches.{counted-read}
 use Rattle.story.proofs.Unfolding.{name-count}
-use Rattle.story.proofs.Parts.{drop-take}
 
 -- 1. Parts
 

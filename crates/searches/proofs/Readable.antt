@@ -13,7 +13,7 @@ use Rattle.story.specs.declared.Heading.{Heading}
 use Rattle.story.specs.declared.HeadingRead.{HeadingRead}
 use Rattle.story.specs.declared.HeadingRead.the-variants as heading
 use Rattle.story.specs.Headings.{headingOf}
-use Rattle.story.specs.Flows.{part, titled, stitch, flow, flows, piece, piecesIn, stitchIn, flowIn, flowsIn}
+use Rattle.story.specs.Flows.{part, titled, stitch, flow, flows, piece, piecesIn, stitchIn, flowIn, flowsIn, stitches}
 use Rattle.story.proofs.Readable.{TitledWell, titled-well, titled-heading, piece-first, piece-rest, flow-titled}
 use Rattle.story.proofs.Unfolding.{pieces-in-cut}
 use Rattle.searches.specs.declared.views.StitchView.{StitchView}
@@ -61,9 +61,6 @@ module _ (g : Reading) (file : List ℕ) (at end n : ℕ) (read : span.Bytes n �
   pieces-good = rw (← part-drop (4 + n) at end file) (piece-rest g (part at end file) good n read refl)
 
 -- 3. Stitches
-
-abbrev pub stitches : Reading
-stitches = repeat (piece stitch)
 
 -- the stitch's nodes can be read, and the stitches after it
 pub record GoodStitch (file : List ℕ) (end : ℕ) (v : StitchView) : Type 0 where

@@ -18,7 +18,7 @@ use Rattle.fields.proofs.Laws.{name-fits}
 use Rattle.names.specs.Counted.{nameAt}
 use Rattle.records.specs.Trace.{Record, met, well, ends}
 use Rattle.records.specs.Grammar.{nodes}
-use Rattle.records.proofs.Places.{stands-in-file, lies-within}
+use Rattle.records.proofs.Places.{stands-in-file, lies-within, drop-take}
 use Rattle.story.specs.declared.Reach.the-variants as reach
 use Rattle.story.specs.Story.{Name, Kind, plain, temp, divert, tunnel, thread, call, variable, argument, choice, gather, parameter, stitchName, flowStart, code, Item}
 use Rattle.story.specs.Items.{nameIn, sortOf, nameStart, nameless, recordName, labelled, whatOf, itemAs, itemOf, itemsIn}
@@ -27,7 +27,6 @@ use Rattle.story.specs.Flows.{names, namesN, countedIn, part}
 use Rattle.story.proofs.Reaches.{counted-read}
 use Rattle.story.proofs.Unfolding.{front, name-count, names-n-step}
 use Rattle.story.proofs.Readable.{names-front, names-rest}
-use Rattle.story.proofs.Parts.{drop-take}
 use Rattle.story.proofs.Places.{item-of}
 use Rattle.story.proofs.WellInside.{record-bears}
 use Rattle.story.proofs.RecordNames.{HasName, bears-name}

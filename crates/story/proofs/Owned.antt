@@ -20,15 +20,15 @@ use Rattle.records.proofs.Places.{lies-within}
 use Rattle.story.specs.declared.Sections.{Sections}
 use Rattle.story.specs.declared.Reach.the-variants as reach
 use Rattle.story.specs.declared.Heading.{Heading}
-use Rattle.story.specs.Story.{Name, Item, Stitch, Flow, Story}
+use Rattle.story.specs.Story.{Name, Item, Stitch, Flow, Story, ownName}
 use Rattle.story.specs.Items.{nameIn, itemOf, itemsAs, itemsIn}
 use Rattle.story.specs.Headings.{countedReach}
-use Rattle.story.specs.Flows.{names, piece, stitch, flow, flows, namesIn, countedIn, part, piecesAt, piecesN, piecesIn, stitchIn, flowIn, flowsIn}
+use Rattle.story.specs.Flows.{names, piece, stitch, flow, flows, namesIn, countedIn, part, piecesAt, piecesN, piecesIn, stitchIn, flowIn, flowsIn, stitches}
 use Rattle.story.specs.File.{storyIn}
 use Rattle.story.proofs.Reaches.{counted-fits}
 use Rattle.story.proofs.Unfolding.{titled-in, flow-in}
 use Rattle.story.proofs.Readable.{Readable, piece-first, piece-rest, flows-pieces, TitledWell, titled-heading, flow-titled, stitch-titled}
-use Rattle.story.proofs.Parts.{counted-part}
+use Rattle.story.proofs.Parts.{counted-part, part-length}
 use Rattle.story.proofs.Places.{NameBefore, name-within, names-rise, counted-rise, item-of}
 use Rattle.story.proofs.WellInside.{Apart, records-apart}
 use Rattle.story.proofs.Named.{Lies, lies-in-file, lies-at, lies-drop, lies-take, lies-part, AsFile, names-as-file, counted-as-file, name-in-lies, named-near, label-as-file}
@@ -84,12 +84,10 @@ module _ {file : List ℕ} {b : ℕ} {t : List ℕ} (l : Lies file b t) where
       between m i = inside m (rw (counted-part (b + p) p t q) i)
 
 -- the labels of a body, as names
-abbrev pub labelName : Item → Name
-labelName i = record { at = i .named; bytes = i .what .name }
-
 unfoldable pub labelNames : List Item → List Name
-labelNames body = each (λ (i : Item). only (i .what .labels) (labelName i)) body
+labelNames body = each (λ (i : Item). only (i .what .labels) (ownName i)) body
 
+-- named at an earlier place
 abbrev NamedBefore : Item → Item → Type 0
 NamedBefore i j = i .named < j .named
 
@@ -111,10 +109,10 @@ items-named-rise b t = by-end (ends (nodes t))
     by-end (refused x) = tt
 
 -- a label is the name of an item
-label-of : (b : ℕ) (t : List ℕ) (m : Name) → List·Memᴰ m (labelNames (itemsIn b t)) → (i : Item) × List·Memᴰ i (itemsIn b t) × (i .what .labels ≡ true) × (m ≡ labelName i)
+label-of : (b : ℕ) (t : List ℕ) (m : Name) → List·Memᴰ m (labelNames (itemsIn b t)) → (i : Item) × List·Memᴰ i (itemsIn b t) × (i .what .labels ≡ true) × (m ≡ ownName i)
 unfolding labelNames
 label-of b t m k =
-    let o = of-each (λ (i : Item). only (i .what .labels) (labelName i)) (itemsIn b t) k in
+    let o = of-each (λ (i : Item). only (i .what .labels) (ownName i)) (itemsIn b t) k in
     let p = of-only (o .0 .what .labels) (o .2) in
     (o .0, o .1, is-true (o .0 .what .labels) (p .0), p .1)
 
@@ -138,19 +136,21 @@ module _ {file : List ℕ} {b : ℕ} {t : List ℕ} (l : Lies file b t) (good : 
   labels-own = record { rise = rising; within = labels-within; as-file = labels-as-file }
     where
       rising : Sorted NameBefore (labelNames (itemsIn b t))
-      rising = sorted-each NamedBefore NameBefore (λ (i : Item). only (i .what .labels) (labelName i)) (itemsIn b t) (items-named-rise b t)
-          (λ i m. sorted-only NameBefore (i .what .labels) (labelName i))
+      rising = sorted-each NamedBefore NameBefore (λ (i : Item). only (i .what .labels) (ownName i)) (itemsIn b t) (items-named-rise b t)
+          (λ i m. sorted-only NameBefore (i .what .labels) (ownName i))
           (λ i j x y q p r. omega (arith, q, ap (λ (n : Name). n .at) (of-only (i .what .labels) p .1), ap (λ (n : Name). n .at) (of-only (j .what .labels) r .1)))
 
 -- 3. Titles, stitches and flows
 
--- the names that a stitch, a flow and a story own, in file order
+-- the names that a stitch owns, in file order
 abbrev pub stitchNames : Stitch → List Name
 stitchNames t = t .name ∷ t .params ++ labelNames (t .body)
 
+-- those of a flow
 abbrev pub flowNames : Flow → List Name
 flowNames f = f .name ∷ f .params ++ labelNames (f .body) ++ each stitchNames (f .stitches)
 
+-- those of a story
 abbrev pub ownNames : Story → List Name
 ownNames s = s .globals ++ labelNames (s .root) ++ each flowNames (s .flows)
 
@@ -217,7 +217,7 @@ module _ {file : List ℕ} (p : ℕ) (u : List ℕ) (l : Lies file (p + 4) u) wh
   pub flow-own : ends (flow u) ≡ well → Own file p (p + (4 + length u)) (flowNames (flowIn p u))
   flow-own good =
       let f = flow-titled u good in
-      let d = titled-heading (repeat (piece stitch)) (drop 1 u) (f .1) in
+      let d = titled-heading stitches (drop 1 u) (f .1) in
       let h = d .0 in
       let begin : p + 4 + 1 ≡ p + 5 = omega arith in
       let after : p + 4 + (1 + h .end) ≡ p + (5 + h .end) = omega arith in
@@ -230,13 +230,9 @@ module _ {file : List ℕ} (p : ℕ) (u : List ℕ) (l : Lies file (p + 4) u) wh
 
 -- 4. A readable file
 
-part-length : (a b : ℕ) (s : List ℕ) → a ≤ b → b ≤ length s → length (part a b s) ≡ b - a
-unfolding part
-part-length a b s p q = omega (arith, length-take (b - a) (drop a s), length-drop a s)
-
 module _ (c : Sections) (s : List ℕ) (r : Readable c s) where
   section : {a b : ℕ} {l : List Name} → a ≤ b → b ≤ length s → Own s a (a + length (part a b s)) l → Own s a b l
-  section {a} {b} p q o = own-wider (omega arith) (omega (arith, part-length a b s p q)) o
+  section {a} {b} p q o = own-wider (omega arith) (omega (arith, part-length a b s q)) o
 
   pub globals-own : Own s 0 (c .externals) (storyIn c s .globals)
   unfolding storyIn

@@ -11,7 +11,6 @@ use Rattle.fields.specs.declared.Span.the-variants as span
 use Rattle.fields.specs.Bytes.{listOf}
 use Rattle.records.specs.Trace.{Record, met, Ending, well, refused, ends}
 use Rattle.records.specs.Grammar.{nodes}
-use Rattle.records.specs.Sorted as records
 use Rattle.records.proofs.Places.{places-rise, lies-within}
 use Rattle.story.specs.declared.Sections.{Sections}
 use Rattle.story.specs.declared.HeadingRead.{HeadingRead}
@@ -26,6 +25,7 @@ use Rattle.story.specs.File.{storyIn}
 abbrev pub ItemBefore : Item → Item → Type 0
 ItemBefore i j = i .place < j .place
 
+-- at an earlier place
 abbrev pub NameBefore : Name → Name → Type 0
 NameBefore m n = m .at < n .at
 
@@ -55,7 +55,7 @@ counted-rise at s = names-rise (getD s 0 0) (at + 1) (drop 1 s)
 
 -- 2. Items
 
-items-sorted : (rs : List Record) → records.Sorted (λ (x y : Record). x .place < y .place) rs → Sorted ItemBefore (map itemOf rs)
+items-sorted : (rs : List Record) → Sorted (λ (x y : Record). x .place < y .place) rs → Sorted ItemBefore (map itemOf rs)
 unfolding itemOf itemAs
 items-sorted [] h = tt
 items-sorted (r ∷ rs) h = (later, items-sorted rs (h .1))

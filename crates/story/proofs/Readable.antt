@@ -22,7 +22,7 @@ use Rattle.story.specs.declared.Heading.{Heading}
 use Rattle.story.specs.declared.HeadingRead.{HeadingRead}
 use Rattle.story.specs.declared.HeadingRead.the-variants as heading
 use Rattle.story.specs.Headings.{headingOf}
-use Rattle.story.specs.Flows.{names, titled, piece, stitch, flow, flows, part}
+use Rattle.story.specs.Flows.{names, titled, piece, stitch, flow, flows, part, stitches}
 use Rattle.story.specs.File.{InOrder, openedOf, sectionsRead, readEnded, readAt, readOf}
 use Rattle.story.specs.Endings.{reachOf, titledReachAt, titledReach}
 use Rattle.story.proofs.Endings.{first-well, second-well}
@@ -102,6 +102,7 @@ flows-pieces t = refl
 
 -- 4. A title, then what follows it by k
 
+-- a title that is read well: its heading, its nodes, and what follows them
 pub record TitledWell (k : Reading) (h : Heading) (s : List ℕ) : Type 0 where
   pub told : headingOf s ≡ heading.At h
   pub laid : Laid h s
@@ -136,14 +137,14 @@ module _ (k : Reading) (s : List ℕ) (good : ends (titled k s) ≡ well) where
 -- 5. A flow and a stitch
 
 module _ (s : List ℕ) (good : ends (flow s) ≡ well) where
-  flag-well : (r : FlagRead) → r ≡ flagOf s → flagEnds r (ends (titled (repeat (piece stitch)) (drop 1 s))) ≡ well → (1 ≤ length s) × (ends (titled (repeat (piece stitch)) (drop 1 s)) ≡ well)
+  flag-well : (r : FlagRead) → r ≡ flagOf s → flagEnds r (ends (titled stitches (drop 1 s))) ≡ well → (1 ≤ length s) × (ends (titled stitches (drop 1 s)) ≡ well)
   unfolding flagEnds
   flag-well flag.Off p e = (off-fits s p refl, e)
   flag-well flag.On p e = (on-fits s p refl, e)
   flag-well (flag.Refused x) p e = let z : _≡_ {A = ℕ} 0 1 = cc in absurd (omega arith)
 
   -- after its flag a flow is a title and stitches
-  pub flow-titled : (1 ≤ length s) × (ends (titled (repeat (piece stitch)) (drop 1 s)) ≡ well)
+  pub flow-titled : (1 ≤ length s) × (ends (titled stitches (drop 1 s)) ≡ well)
   flow-titled = flag-well (flagOf s) refl (sym (flow-ends s) ∙ good)
 
 module _ (s : List ℕ) (good : ends (stitch s) ≡ well) where

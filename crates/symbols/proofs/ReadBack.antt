@@ -11,12 +11,12 @@ use Rattle.names.specs.Words.{Bytes, each}
 use Rattle.names.proofs.Lists.{Every, every-append, every-each, of-only, in-each, in-only}
 use Rattle.records.specs.Window.{overlay}
 use Rattle.story.specs.declared.Sections.{Sections}
-use Rattle.story.specs.Story.{Name, Item, Stitch, Flow, Story}
+use Rattle.story.specs.Story.{Name, Item, Stitch, Flow, Story, ownName}
 use Rattle.story.specs.File.{storyIn}
 use Rattle.story.proofs.Readable.{Readable}
 use Rattle.story.proofs.Owned.{labelNames, stitchNames, flowNames, ownNames, story-own}
 use Rattle.symbols.specs.declared.Places.{Places}
-use Rattle.symbols.specs.Index.{Entry, dotted, spelling, alone, nameOf, labelled, prefix, stitchEntries, flowEntries, entries, spellings}
+use Rattle.symbols.specs.Index.{Entry, dotted, spelling, alone, labelled, prefix, stitchEntries, flowEntries, entries, spellings}
 use Rattle.symbols.specs.Numbers.{absent, numberOf, placesOf, numbers}
 use Rattle.symbols.specs.Placed.{placed, indexOf}
 use Rattle.symbols.specs.Stands.{NameStands, PartStands, EntryStands}
@@ -42,7 +42,7 @@ module _ (file : List ℕ) (end : ℕ) where
   unfolding labelled labelNames
   labels-stand f t body p q h = every-each (EntryStands file end) _ body (λ i m e k.
       let r = of-only (i .what .labels) k in
-      subst (EntryStands file end) (sym (r .1)) (record { flow = p; stitch = q; own = h (nameOf i) (in-each _ m (in-only (i .what .labels) (r .0))) }))
+      subst (EntryStands file end) (sym (r .1)) (record { flow = p; stitch = q; own = h (ownName i) (in-each _ m (in-only (i .what .labels) (r .0))) }))
 
   stitch-stands : (f : Flow) (t : Stitch) → Good (f .name) → Every Good (stitchNames t) → Every (EntryStands file end) (stitchEntries f t)
   unfolding stitchEntries

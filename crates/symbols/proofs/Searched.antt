@@ -22,6 +22,7 @@ use Rattle.symbols.specs.Rows.{rows, spellingIn, spellingsIn, firstOf, w
 
 -- 1. The first entry of some numbers, and the others
 
+-- the first three numbers
 abbrev pub rowOf : List ℕ → Places
 rowOf s = record { flow = getD s 0 0; stitch = getD s 1 0; own = getD s 2 0 }
 
@@ -58,6 +59,7 @@ module _ (file s : List ℕ) (n : ℕ) where
 
 -- 2. What is left of the search
 
+-- the entries that are left decide, those before number k having been passed
 pub record Left (file index rest target : List ℕ) (count k : ℕ) (exact ending : Bool) : Type 0 where
   pub within : k ≤ count
   pub left : firstOf (sought exact ending target) 0 (spellingsIn file count index) ≡ firstOf (sought exact ending target) k (spellingsIn file (count - k) rest)

@@ -6,8 +6,7 @@ use lib.ListN.{length}
 use denote.Enum.Declared.{tagOf}
 use Rattle.fields.proofs.Laws.{list-fits}
 use Rattle.records.specs.Trace.{ends}
-use Rattle.records.specs.Grammar.{repeat}
-use Rattle.story.specs.Flows.{piece, stitch}
+use Rattle.story.specs.Flows.{stitch, stitches}
 use Rattle.story.specs.Endings.{endOf}
 use Rattle.story.proofs.Ended.{the-type}
 use Rattle.story.proofs.Endings.{not-well}
@@ -17,7 +16,7 @@ use Rattle.story.proofs.flows.read_stitches.Statement.{statement}
 use Rattle.story.proofs.flows.read_stitches.Tie as tie
 
 abbrev Inv-loop : tie.InvT-loop
-Inv-loop s t₀ t = (length t ≤ length s) × (ends (repeat (piece stitch) s) ≡ ends (repeat (piece stitch) t))
+Inv-loop s t₀ t = (length t ≤ length s) × (ends (stitches s) ≡ ends (stitches t))
 
 abbrev μ-loop : tie.MeasureT-loop
 μ-loop s t₀ t = length t

@@ -6,8 +6,7 @@ use native.Mathlib.Omega.{arith}
 use lib.ListN.{length}
 use Rattle.names.specs.Words.{each}
 use Rattle.records.specs.Trace.{well, ends}
-use Rattle.records.specs.Grammar.{repeat}
-use Rattle.story.specs.Flows.{part, piece, stitch, piecesIn, stitchIn}
+use Rattle.story.specs.Flows.{part, piecesIn, stitchIn, stitches}
 use Rattle.searches.proofs.Viewed.{stitch-viewed, stitch-laid}
 use Rattle.searches.proofs.Readable.{no-stitch, stitch-readable}
 use Rattle.symbols.specs.Placed.{stitchPlaced}
@@ -19,7 +18,7 @@ use Rattle.symbols.proofs.entries.put_stitches.Tie as tie
 abbrev Inv-loop : tie.InvT-loop
 Inv-loop file from end flow index₀ n batch₀ at₀ count₀ index batch at count =
     ((at ≤ end) × (length index ≡ length index₀) × (length batch ≡ length batch₀))
-    × (ends (repeat (piece stitch) (part at end file)) ≡ well)
+    × (ends (stitches (part at end file)) ≡ well)
     × Storing index₀ n (each (stitchPlaced flow) (piecesIn stitchIn from (part from end file))) index count (each (stitchPlaced flow) (piecesIn stitchIn at (part at end file)))
 
 abbrev μ-loop : tie.MeasureT-loop

@@ -2,8 +2,8 @@
 use native.Mathlib.Omega.{arith}
 use Rattle.bodies.proofs.Searching.{found-all}
 use borrow.Author.Needs.{needs}
-use Rattle.bodies.proofs.searches.found_in.Statement.{statement}
-use Rattle.bodies.proofs.searches.found_in.Tie as tie
+use Rattle.bodies.proofs.named.found_in.Statement.{statement}
+use Rattle.bodies.proofs.named.found_in.Tie as tie
 
 count-items-requires : tie.Need-count-items-requires
 count-items-requires c κs = search needs

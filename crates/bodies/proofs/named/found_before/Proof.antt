@@ -8,8 +8,8 @@ use Rattle.bodies.specs.Search.{bears, foundAmong}
 use Rattle.bodies.proofs.Fetching.{fetched-item}
 use Rattle.bodies.proofs.Searching.{Passed, passed-start, passed-end, passed-found, passed-next}
 use borrow.Author.Needs.{needs}
-use Rattle.bodies.proofs.searches.found_before.Statement.{statement}
-use Rattle.bodies.proofs.searches.found_before.Tie as tie
+use Rattle.bodies.proofs.named.found_before.Statement.{statement}
+use Rattle.bodies.proofs.named.found_before.Tie as tie
 
 abbrev Inv-loop : tie.InvT-loop
 Inv-loop sought file from to end name scratch₀ skip₀ i₀ scratch skip i = ((i ≤ end) × (skip ≤ i) × (length scratch ≡ length scratch₀)) × Fetched file from to skip scratch × Passed (bears sought name) (bodyIn file from to) end i

@@ -1,11 +1,11 @@
 -- `has_gather_before`: found as a gather, before item number i or among all. Assumes nothing.
 use native.Mathlib.Omega.{arith}
-use Rattle.bodies.specs.declared.searches.Sought.the-variants.{Gather}
+use Rattle.bodies.specs.declared.named.Sought.the-variants.{Gather}
 use Rattle.bodies.specs.Search.{ofSort, bears, foundAmong}
 use Rattle.bodies.proofs.Searching.{found-more}
 use borrow.Author.Needs.{needs}
-use Rattle.bodies.proofs.searches.has_gather_before.Statement.{statement}
-use Rattle.bodies.proofs.searches.has_gather_before.Tie as tie
+use Rattle.bodies.proofs.named.has_gather_before.Statement.{statement}
+use Rattle.bodies.proofs.named.has_gather_before.Tie as tie
 
 count-items-requires : tie.Need-count-items-requires
 count-items-requires c κs = search needs
