@@ -64,7 +64,10 @@ loop-less : tie.Need-loop-less Inv-loop μ-loop
 loop-less c = search needs
 
 loop-again : tie.Need-loop-again Inv-loop μ-loop
-loop-again c = (omega arith, c .before .before .before .before .before .before .fetch .ensures .window, passed-next (c .before .before .before .before .before .before .before .before .before .loop .inv .2) (omega arith) (fetched-item (c .before .before .before .before .before .before .fetch .ensures) (omega arith)) (c .before .bears-name .ensures) (c .if1 .left))
+loop-again c =
+    let loop = c .before .before .before .before .before .before .before .before .before .loop in
+    let fetch = c .before .before .before .before .before .before .fetch in
+    (omega arith, fetch .ensures .window, passed-next (loop .inv .2) (omega arith) (fetched-item (fetch .ensures) (omega arith)) (c .before .bears-name .ensures) (c .if1 .left))
 
 same-length-2 : tie.Need-same-length-2 Inv-loop μ-loop
 same-length-2 c = search needs

@@ -28,7 +28,11 @@ same-length-2 c = search needs
 
 returns-2 : tie.Need-returns-2
 unfolding ofSort bears foundAmong
-returns-2 c = found-more Gather (c .before .before .before .before .before .before .before .before .before .before .before .before .args .name .now) (c .before .before .before .before .before .before .before .count-items .ensures) (c .before .before .found-before2 .ensures) (c .before .before .before .before .before .before .before .before .before .before .before .before .args .i) (c .before .before .before .before .if1 .left)
+returns-2 c =
+    let start = c .before .before .before .before .before .before .before .before .before .before .before .before in
+    let count-items = c .before .before .before .before .before .before .before .count-items in
+    let if1 = c .before .before .before .before .if1 in
+    found-more Gather (start .args .name .now) (count-items .ensures) (c .before .before .found-before2 .ensures) (start .args .i) (if1 .left)
 
 pub has-gather-before-spec : {M : Type 1} → statement M
 has-gather-before-spec =
