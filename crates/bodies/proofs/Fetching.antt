@@ -22,7 +22,6 @@ use Rattle.records.specs.Window.{window, walked, Walked}
 use Rattle.records.specs.Stands.{Stands}
 use Rattle.records.proofs.Places.{stands-in-file}
 use Rattle.records.proofs.Windows.{window-length, window-place, window-tag}
-use Rattle.story.specs.Story.{Item}
 use Rattle.story.specs.Items.{itemOf, itemsAs, itemsIn}
 use Rattle.story.specs.Flows.{part}
 use Rattle.bodies.specs.Records.{roleFrom, payloadBehind, payloadAt, recordFrom, itemFrom}

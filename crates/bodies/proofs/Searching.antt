@@ -9,7 +9,7 @@ use lib.ListN.{length, take, drop, length-map}
 use lib.Seq.{take-all}
 use Rattle.names.specs.Words.{Bytes, any}
 use Rattle.story.specs.Story.{What, Item, whats}
-use Rattle.bodies.specs.declared.searches.Sought.{Sought}
+use Rattle.bodies.specs.declared.named.Sought.{Sought}
 use Rattle.bodies.specs.Bodies.{bodyIn, Counted}
 use Rattle.bodies.specs.Search.{foundAmong}
 

@@ -55,10 +55,6 @@ module _ (file : List ℕ) (place tag : ℕ) where
   abbrev sort : Kind
   sort = itemFrom file place tag .what .kind
 
-  pub item-place : itemFrom file place tag .place ≡ place
-  unfolding itemFrom recordFrom itemOf itemAs
-  item-place = refl
-
   pub item-sort : itemFrom file place tag .what .kind ≡ sortOf (roleFrom (tag / 256)) (tag % 256) (payloadAt file place)
   unfolding itemFrom recordFrom itemOf itemAs whatOf
   item-sort = refl

@@ -1,3 +1,4 @@
+-- The definitions on bodies.
 pub mod Records
 pub mod Bodies
 pub mod Search

@@ -15,6 +15,7 @@ use Rattle.story.specs.Items.{itemOf}
 abbrev pub roles : List Role
 roles = Node ∷ Branch ∷ Cond ∷ Visited ∷ Argument ∷ []
 
+-- the role of a number
 unfoldable pub roleFrom : ℕ → Role
 roleFrom n = getD roles n Unvisited
 
@@ -36,5 +37,6 @@ recordFrom file place tag = record {
   payload = payloadAt file place;
 }
 
+-- the item that the record at the place is
 unfoldable pub itemFrom : List ℕ → ℕ → ℕ → Item
 itemFrom file place tag = itemOf (recordFrom file place tag)

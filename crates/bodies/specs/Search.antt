@@ -3,13 +3,14 @@ use mathlib.Core.Bool.{Bool, _&&_}
 use mathlib.Core.List.{List}
 use Rattle.names.specs.Words.{Bytes, same, any}
 use Rattle.story.specs.Story.{temp, gather, What, is, Item, whats}
-use Rattle.bodies.specs.declared.searches.Sought.{Sought}
-use Rattle.bodies.specs.declared.searches.Sought.the-variants as sought
+use Rattle.bodies.specs.declared.named.Sought.{Sought}
+use Rattle.bodies.specs.declared.named.Sought.the-variants as sought
 
--- a name that is a label, or a temp, in a body
+-- a label of the body
 abbrev pub labelIn : List Item → Bytes → Bool
 labelIn body n = any (λ (w : What). w .labels && same n (w .name)) (whats body)
 
+-- a TempSet name in the body
 abbrev pub tempIn : List Item → Bytes → Bool
 tempIn body n = any (λ (w : What). is temp w && same n (w .name)) (whats body)
 

@@ -1,15 +1,15 @@
 -- What the searches answer is what the rules ask of the story. Assumes nothing.
-use mathlib.Core.Path.{_≡_, refl, sym, ap, _∙_}
-use mathlib.Core.Bool.{Bool, true, false, not, _&&_, _||_, or-assoc, or-false, or-true}
+use mathlib.Core.Path.{_≡_, refl, sym, _∙_}
+use mathlib.Core.Bool.{Bool, true, false, _||_, or-true}
 use mathlib.Core.List.{List, [], _∷_}
-use Prim.Native.Nat.{ℕ, _-_, _≤_}
-use lib.ListN.{length, take, drop}
+use Prim.Native.Nat.{ℕ, _-_}
+use lib.ListN.{take, drop}
 use Rattle.names.specs.Words.{Bytes, same, any, one-of, ends}
 use Rattle.names.specs.Reserved.{END, DONE, back}
-use Rattle.names.proofs.Bools.{or-found, or-passed}
+use Rattle.names.proofs.Bools.{or-found}
 use Rattle.story.specs.declared.Sections.{Sections}
-use Rattle.story.specs.Story.{Name, What, Stitch, Flow, words}
-use Rattle.story.specs.Flows.{namesIn, countedIn, flowsIn, piecesIn, stitchIn, part}
+use Rattle.story.specs.Story.{words}
+use Rattle.story.specs.Flows.{namesIn, flowsIn}
 use Rattle.story.specs.File.{storyIn}
 use Rattle.searches.specs.Called.{isFlow, isFunction}
 use Rattle.searches.proofs.Answers.{section-answer, flows-answer}

@@ -1,21 +1,19 @@
 -- Which rule is broken first, by cases in the order of the code's tests. Assumes nothing.
-use mathlib.Core.Path.{_≡_, refl, sym, ap, _∙_}
+use mathlib.Core.Path.{_≡_, refl}
 use mathlib.Core.Bool.{Bool, true, false, not, _&&_, _||_, or-false, and-false}
 use mathlib.Core.List.{List, [], _∷_}
 use Prim.Native.Nat.{ℕ, _≤_}
 use native.Mathlib.Omega.{arith}
-use lib.Dec.{eqb, eqb→eq, T}
+use lib.Dec.{eqb, eqb→eq}
 use borrow.Author.Tests.{ne-eqb}
 use Rattle.fields.specs.Bytes.{pick}
-use Rattle.names.specs.Words.{Bytes, same, any}
+use Rattle.names.specs.Words.{same, any}
 use Rattle.names.specs.Reserved.{END, DONE}
 use Rattle.names.specs.Targets.{passes}
 use Rattle.story.specs.Story.{temp, divert, variable, argument, call, choice, gather, parameter, stitchName, flowStart, code, What, is, Name, Story}
-use Rattle.rules.specs.declared.Rule.{Rule}
 use Rattle.rules.specs.declared.Rule.the-variants.{FunctionDivertedTo, TargetNotFound, FlowCalled, NameIsFunction, TempIsParameter, TempIsLabel, ParameterUnmarked, ParameterAlreadyMarked, GatherRepeated, ChoiceUndiverted, FunctionWithStitches, FunctionWithChoice, FunctionWithDivert, VariableForbidden}
-use Rattle.rules.specs.Rules.{Known, Here, target, callPasses, broken, here, Scope, root}
+use Rattle.rules.specs.Rules.{Known, Here, target, callPasses, broken, here, root}
 use Rattle.rules.specs.Steps.{nameItem, bracket, s1, s5, s6, s12, targets, calls, choices, temps, variableDiverts, gathers}
-use Rattle.checks.specs.declared.Judged.{Judged}
 use Rattle.checks.specs.declared.Judged.the-variants.{Fine, Broken}
 use Rattle.checks.specs.Judged.{firstBroken, judgedBy, targetJudged, callJudged, tempJudged, paramJudged, stitchJudged, variableDivertJudged, argumentJudged}
 

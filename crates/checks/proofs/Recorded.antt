@@ -15,7 +15,7 @@ use Rattle.names.specs.Words.{same}
 use Rattle.names.specs.Reserved.{END, DONE}
 use Rattle.story.specs.Story.{Kind, plain, temp, divert, choice, code, What, is}
 use Rattle.story.specs.Items.{nodeSorts, condSorts, exprSorts, argumentSorts, sortOf}
-use Rattle.bodies.specs.Records.{itemFrom, roleFrom, payloadAt}
+use Rattle.bodies.specs.Records.{roleFrom, payloadAt}
 use Rattle.bodies.proofs.Sorts.{item-sort}
 use Rattle.rules.specs.declared.Rule.the-variants.{FunctionWithChoice, FunctionWithDivert}
 use Rattle.rules.specs.Rules.{Known, Here}

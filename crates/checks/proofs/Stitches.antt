@@ -1,18 +1,16 @@
 -- The stitches of a flow one after the other, and a label sought in them. Assumes nothing.
-use mathlib.Core.Path.{_≡_, refl, sym, ap, _∙_}
-use mathlib.Core.Bool.{Bool, true, false, _||_}
-use mathlib.Core.List.{List, [], _∷_}
-use Prim.Native.Nat.{ℕ, _-_, _≤_, _<_}
+use mathlib.Core.Path.{_≡_}
+use mathlib.Core.Bool.{Bool, true, false}
+use mathlib.Core.List.{List, []}
+use Prim.Native.Nat.{ℕ, _-_, _<_}
 use native.Mathlib.Omega.{arith}
-use lib.ListN.{length}
-use Rattle.names.specs.Words.{Bytes, any}
+use Rattle.names.specs.Words.{Bytes}
 use Rattle.names.proofs.Bools.{or-found}
-use Rattle.story.specs.Story.{Stitch}
 use Rattle.story.specs.Flows.{part, piecesIn, stitchIn}
 use Rattle.searches.specs.declared.views.StitchView.{StitchView}
 use Rattle.searches.specs.declared.views.StitchViewRead.{StitchViewRead}
 use Rattle.searches.specs.declared.views.StitchViewRead.the-variants as read
-use Rattle.searches.specs.Views.{stitchViewOf, viewedStitch}
+use Rattle.searches.specs.Views.{stitchViewOf}
 use Rattle.searches.proofs.Viewed.{StitchLaid, stitch-viewed, stitch-laid}
 use Rattle.searches.proofs.Readable.{no-stitch, stitch-readable}
 use Rattle.bodies.specs.Bodies.{bodyIn, Range}

@@ -6,10 +6,9 @@ use mathlib.Core.List.{List}
 use lib.ListN.{length, drop}
 use Rattle.names.specs.Words.{Bytes, any, one-of}
 use Rattle.records.specs.Trace.{well, ends}
-use Rattle.records.specs.Grammar.{repeat}
 use Rattle.story.specs.declared.Sections.{Sections}
 use Rattle.story.specs.Story.{What, Stitch, words, code}
-use Rattle.story.specs.Flows.{piece, stitch, part, countedIn, piecesIn, stitchIn}
+use Rattle.story.specs.Flows.{part, countedIn, piecesIn, stitchIn, stitches}
 use Rattle.story.specs.File.{InOrder, storyIn}
 use Rattle.bodies.specs.Records.{itemFrom}
 use Rattle.bodies.specs.Bodies.{bodyIn, Range}
@@ -66,7 +65,7 @@ pub record StitchesReady (file : List ℕ) (at end : ℕ) : Type 0 where
   pub ordered : at ≤ end
   pub within : end ≤ length file
   pub short : length file ≤ 1048576
-  pub good : ends (repeat (piece stitch) (part at end file)) ≡ well
+  pub good : ends (stitches (part at end file)) ≡ well
 
 -- the parts of the flow or the stitch, and those of its knot, lie within the file, and the stitches can be read
 pub record ScopeReady (file : List ℕ) (v : ScopeView) : Type 0 where

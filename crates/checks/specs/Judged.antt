@@ -1,6 +1,6 @@
 -- Which of some rules is broken first at what is visited, and by which tests it is found. Assumes nothing.
 use mathlib.Core.List.{List, [], _∷_}
-use mathlib.Core.Bool.{Bool, true, false}
+use mathlib.Core.Bool.{Bool}
 use Rattle.fields.specs.Bytes.{pick}
 use Rattle.names.specs.Words.{Bytes}
 use Rattle.names.specs.Targets.{passes}

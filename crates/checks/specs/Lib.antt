@@ -1,2 +1,3 @@
+-- The definitions on what is judged at one item.
 pub mod Judged
 pub mod Context

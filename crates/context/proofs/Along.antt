@@ -1,18 +1,17 @@
 -- Along the items of a step: one after the other, and where what stands before an item does not matter. Assumes nothing.
-use mathlib.Core.Path.{_≡_, refl, sym, ap, _∙_}
+use mathlib.Core.Path.{_≡_, refl, ap}
 use mathlib.Core.List.{List, [], _∷_, _++_}
 use Prim.Native.Nat.{ℕ}
 use Rattle.fields.specs.Bytes.{pick}
-use Rattle.story.specs.Story.{What, Item, Story, Flow, Name, flowStart}
+use Rattle.story.specs.Story.{What, Item, Story, Name, flowStart}
 use Rattle.rules.specs.declared.Rule.{Rule}
 use Rattle.rules.specs.declared.Rule.the-variants.{FunctionWithStitches}
-use Rattle.rules.specs.Rules.{Known, Here, known, here, Scope, root, knot, stitched}
+use Rattle.rules.specs.Rules.{Known, Here, known, here, Scope, root, stitched}
 use Rattle.rules.specs.Steps.{bracket, s1, s5, s6, temps, nameItem, namesOf, flowNamed}
 use Rattle.checks.specs.declared.Judged.{Judged}
 use Rattle.checks.specs.declared.Judged.the-variants as judged
 use Rattle.checks.specs.Judged.{judgedBy}
 use Rattle.checks.proofs.Cases.{root-temps, purity-free, params-free, start-judged}
-use Rattle.context.specs.declared.Found.{Found}
 use Rattle.context.specs.declared.Found.the-variants as found
 use Rattle.context.specs.Found.{breachAt, orElse, foundAt, foundAlong, foundIn}
 

@@ -1,5 +1,5 @@
 -- Items at which no rule of some passes is broken: one after the other, and what the passes then find. Assumes nothing.
-use mathlib.Core.Path.{_≡_, refl, sym, ap, _∙_}
+use mathlib.Core.Path.{_≡_, refl, sym, _∙_}
 use mathlib.Core.Bool.{Bool, true, false, not, _&&_, true≢false}
 use mathlib.Core.List.{List, [], _∷_, _++_}
 use Prim.Native.Nat.{ℕ, zero, suc, _+_, _-_, _≤_, _<_}
@@ -20,7 +20,7 @@ use Rattle.context.specs.declared.Found.the-variants as found
 use Rattle.context.specs.declared.Pass.{Pass}
 use Rattle.context.specs.declared.Pass.the-variants as pass
 use Rattle.context.specs.Found.{orElse, foundAt, foundAlong, foundPasses, rulesOf, passAt, passesFrom, isFine, clearAt, clearAlong}
-use Rattle.context.specs.Scopes.{passesClear, passesFound}
+use Rattle.context.specs.Scopes.{passesClear}
 use Rattle.context.proofs.Walks.{taken, past-all}
 
 -- 1. Passes one after the other at an item

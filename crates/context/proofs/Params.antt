@@ -1,11 +1,11 @@
 -- Parameters one after the other, and a stitch's name. Assumes nothing.
-use mathlib.Core.Path.{_≡_, refl, sym, ap, _∙_}
-use mathlib.Core.Bool.{Bool, true, false}
+use mathlib.Core.Path.{_≡_, sym, _∙_}
+use mathlib.Core.Bool.{true, false}
 use mathlib.Core.List.{List, [], _∷_}
 use Prim.Native.Nat.{ℕ, zero, suc, _+_, _-_, _≤_, _<_}
 use native.Mathlib.Numerals.{add-one, sub-one}
 use native.Mathlib.Omega.{arith}
-use lib.ListN.{length, getD, take, drop, length-drop}
+use lib.ListN.{length, getD, drop, length-drop}
 use lib.Seq.{drop-drop, drop-cons, getD-drop}
 use Rattle.names.specs.Words.{Bytes, any}
 use Rattle.names.specs.Counted.{nameAt}
@@ -21,16 +21,15 @@ use Rattle.searches.proofs.Viewed.{stitch-viewed}
 use Rattle.searches.proofs.Readable.{no-stitch}
 use Rattle.rules.specs.declared.Rule.{Rule}
 use Rattle.rules.specs.Rules.{Here}
-use Rattle.rules.specs.Steps.{s6, s12, bracket, nameItem, paramItems, namesOf}
+use Rattle.rules.specs.Steps.{s6, s12, bracket, nameItem, namesOf}
 use Rattle.checks.specs.declared.Judged.{Judged}
 use Rattle.checks.specs.declared.Judged.the-variants as judged
 use Rattle.checks.specs.Judged.{paramJudged, stitchJudged}
 use Rattle.checks.specs.Context.{knownIn, StitchesReady}
 use Rattle.checks.proofs.Cases.{params-judged, stitch-judged}
 use Rattle.context.specs.declared.BreachAt.{BreachAt}
-use Rattle.context.specs.declared.Found.{Found}
 use Rattle.context.specs.declared.Found.the-variants as found
-use Rattle.context.specs.Found.{breachAt, foundAlong}
+use Rattle.context.specs.Found.{breachAt}
 use Rattle.context.specs.Scopes.{paramsFound, stitchNameFound}
 use Rattle.context.proofs.Along.{along-passed, along-found, along-none, params-along}
 

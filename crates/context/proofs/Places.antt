@@ -1,14 +1,13 @@
 -- The names of the root, a flow and a stitch are those at their places, and their parts lie within the file. Assumes nothing.
-use mathlib.Core.Path.{_≡_, refl, sym, ap, _∙_}
-use mathlib.Core.Bool.{Bool, true, false, not, _&&_, _||_, or-false}
-use mathlib.Core.List.{List, [], _∷_}
-use Prim.Native.Nat.{ℕ, _-_, _≤_, _<_}
+use mathlib.Core.Path.{_≡_, refl, sym}
+use mathlib.Core.Bool.{Bool, true, false, not, _&&_, or-false}
+use mathlib.Core.List.{List, []}
+use Prim.Native.Nat.{ℕ, _-_, _<_}
 use native.Mathlib.Omega.{arith}
-use lib.ListN.{length, drop}
+use lib.ListN.{length}
 use lib.Seq.{drop-length}
-use Rattle.names.specs.Words.{Bytes, any, one-of}
+use Rattle.names.specs.Words.{Bytes}
 use Rattle.story.specs.declared.Sections.{Sections}
-use Rattle.story.specs.Story.{Stitch, words}
 use Rattle.records.specs.Trace.{well, ends}
 use Rattle.records.specs.Grammar.{repeatN, repeat}
 use Rattle.story.specs.declared.Opened.the-variants as opened
@@ -25,24 +24,15 @@ use Rattle.searches.specs.declared.views.StitchViewRead.{StitchViewRead}
 use Rattle.searches.specs.declared.views.StitchViewRead.the-variants as stitch-read
 use Rattle.searches.specs.Views.{viewedFlow, viewedStitch, flowViewOf, stitchViewOf}
 use Rattle.searches.proofs.Parts.{part-none}
-use Rattle.searches.proofs.Viewed.{FlowLaid, flow-laid, StitchLaid, stitch-laid}
+use Rattle.searches.proofs.Viewed.{FlowLaid, flow-laid, stitch-laid}
 use Rattle.searches.proofs.Readable.{flow-readable, no-flow}
-use Rattle.bodies.specs.Bodies.{bodyIn, Range}
-use Rattle.rules.specs.Rules.{Here, here, root, knot, stitch}
-use Rattle.checks.specs.Context.{countedAt, stitchLabel, declaredAt, hereAt, StitchesReady, ScopeReady}
+use Rattle.bodies.specs.Bodies.{Range}
+use Rattle.rules.specs.Rules.{here, root, knot, stitch}
+use Rattle.rules.proofs.Order.{same-here}
+use Rattle.checks.specs.Context.{countedAt, declaredAt, hereAt, StitchesReady, ScopeReady}
 use Rattle.context.specs.Scopes.{rootView, knotView, stitchView, FlowReady, StitchReady, FlowsReady}
 
 -- 1. The same names
-
-same-here : (h k : Here) → ((n : Bytes) → h .param n ≡ k .param n) → ((n : Bytes) → h .mark n ≡ k .mark n)
-    → ((n : Bytes) → h .label n ≡ k .label n) → ((n : Bytes) → h .forbidden n ≡ k .forbidden n) → h .stitched ≡ k .stitched → h ≡ k
-same-here h k a b c d e = λ i. record {
-  param = λ n. a n i;
-  mark = λ n. b n i;
-  label = λ n. c n i;
-  forbidden = λ n. d n i;
-  stitched = e i;
-}
 
 -- nothing is declared in the knot and not declared there
 never-both : (b : Bool) → false ≡ b && not b

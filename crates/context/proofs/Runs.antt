@@ -1,5 +1,5 @@
 -- The steps as run, by what the passes and the tests along them find. Assumes nothing.
-use mathlib.Core.Path.{_≡_, refl, sym, ap, _∙_}
+use mathlib.Core.Path.{_≡_, refl, sym, _∙_}
 use mathlib.Core.Bool.{Bool, true, false}
 use mathlib.Core.List.{List, [], _∷_, _++_}
 use Prim.Native.Nat.{ℕ}
@@ -8,23 +8,21 @@ use Rattle.fields.specs.Bytes.{pick}
 use Rattle.names.specs.Words.{any, each}
 use Rattle.story.specs.declared.Sections.{Sections}
 use Rattle.story.specs.Story.{Item, Stitch, Flow, Story, flowStart}
-use Rattle.story.specs.Flows.{countedIn, part, piecesIn, stitchIn}
+use Rattle.story.specs.Flows.{part, piecesIn, stitchIn}
 use Rattle.story.specs.File.{storyIn}
 use Rattle.searches.specs.declared.views.FlowView.{FlowView}
 use Rattle.searches.specs.declared.views.StitchView.{StitchView}
 use Rattle.searches.specs.Views.{viewedFlow, viewedStitch}
 use Rattle.rules.specs.declared.Rule.the-variants.{FunctionWithStitches}
-use Rattle.rules.specs.Rules.{Known, Here, known, here, Scope, root, knot, stitch}
-use Rattle.rules.specs.Steps.{Step, s1, s5, s6, s12, s19, s20, bracket, gathers, rootSteps, flowSteps, stitchSteps, Run, over, nameItem, paramItems, stitchItems, purityItems, stitchRuns, flowRuns, runs, verdict, namesOf, flowNamed}
+use Rattle.rules.specs.Rules.{Here, known, here, Scope, root, knot, stitch}
+use Rattle.rules.specs.Steps.{Step, s5, s6, s12, s19, s20, bracket, gathers, rootSteps, flowSteps, stitchSteps, Run, over, nameItem, paramItems, stitchItems, purityItems, stitchRuns, flowRuns, runs, verdict, namesOf, flowNamed}
 use Rattle.checks.specs.declared.Judged.the-variants as judged
-use Rattle.checks.specs.Context.{knownIn, hereAt}
 use Rattle.context.specs.declared.BreachAt.{BreachAt}
 use Rattle.context.specs.declared.Found.{Found}
 use Rattle.context.specs.declared.Found.the-variants as found
-use Rattle.context.specs.declared.Pass.{Pass}
 use Rattle.context.specs.Found.{breachAt, foundOf, orElse, foundAt, foundAlong, foundIn, foundRuns, rulesOf, passAt, passesFrom, foundPasses}
 use Rattle.context.specs.Scopes.{rootView, knotView, stitchView, FlowReady, passesFound, paramsFound, stitchNameFound, flowStepsRuns}
-use Rattle.context.proofs.Verdict.{or-assoc, verdict-found, runs-append, runs-one}
+use Rattle.context.proofs.Verdict.{verdict-found, runs-append, runs-one}
 use Rattle.context.proofs.Along.{root-along, purity-along}
 use Rattle.context.proofs.Places.{root-here, knot-here, stitch-here}
 

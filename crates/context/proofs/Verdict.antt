@@ -1,23 +1,22 @@
 -- What the check finds is the verdict: step after step, item after item, rule after rule. Assumes nothing.
-use mathlib.Core.Path.{_≡_, refl, sym, ap, _∙_}
+use mathlib.Core.Path.{_≡_, refl, sym, _∙_}
 use mathlib.Core.Bool.{Bool, true, false}
 use mathlib.Core.List.{List, [], _∷_, _++_}
-use mathlib.Core.Option.{Option, none, some}
 use Prim.Native.Nat.{ℕ, suc}
 use native.Mathlib.Omega.{arith}
 use Rattle.fields.specs.Bytes.{pick}
 use Rattle.names.specs.Words.{only, each}
 use Rattle.story.specs.Story.{What, Item, Story}
 use Rattle.rules.specs.declared.Rule.{Rule}
-use Rattle.rules.specs.Rules.{Known, Here, broken, known, here, Scope}
-use Rattle.rules.specs.Steps.{Step, bracket, Run, run, over, runs, Numbered, numbered, Breach, breach, Visit, visits, breaks, inVisit, inRun, breaches, verdict, first, namesOf, flowNamed}
+use Rattle.rules.specs.Rules.{known, here, Scope}
+use Rattle.rules.specs.Steps.{Step, bracket, Run, over, runs, Numbered, numbered, Breach, breach, Visit, visits, breaks, inVisit, inRun, breaches, verdict, first, flowNamed}
 use Rattle.checks.specs.declared.Judged.{Judged}
 use Rattle.checks.specs.declared.Judged.the-variants as judged
 use Rattle.checks.specs.Judged.{firstBroken, judgedBy}
 use Rattle.context.specs.declared.BreachAt.{BreachAt}
 use Rattle.context.specs.declared.Found.{Found}
 use Rattle.context.specs.declared.Found.the-variants as found
-use Rattle.context.specs.Found.{breachAt, foundOf, orElse, foundAt, foundAlong, foundIn, foundRuns}
+use Rattle.context.specs.Found.{foundOf, orElse, foundAt, foundAlong, foundIn, foundRuns}
 
 -- 1. The one or else the other
 
@@ -86,19 +85,6 @@ pub runs-append : (s : Story) (us vs : List Run) → foundRuns s (us ++ vs) ≡ 
 unfolding foundRuns orElse
 runs-append s [] vs = refl
 runs-append s (u ∷ us) vs = rw (runs-append s us vs) (sym (or-assoc (foundIn s (u .scope) (bracket (u .step)) (u .items)) (foundRuns s us) (foundRuns s vs)))
-
-pub runs-each : {A : Type 0} (s : Story) (f : A → List Run) (x : A) (xs : List A)
-    → foundRuns s (each f (x ∷ xs)) ≡ orElse (foundRuns s (f x)) (foundRuns s (each f xs))
-runs-each s f x xs = runs-append s (f x) (each f xs)
-
-pub runs-over : (s : Story) (scope : Scope) (items : List Item) (step : Step) (steps : List Step)
-    → foundRuns s (over scope items (step ∷ steps)) ≡ orElse (foundIn s scope (bracket step) items) (foundRuns s (over scope items steps))
-unfolding foundRuns over
-runs-over s scope items step steps = refl
-
-pub runs-none : (s : Story) (scope : Scope) (items : List Item) → foundRuns s (over scope items []) ≡ found.Clear
-unfolding foundRuns over
-runs-none s scope items = refl
 
 pub runs-one : (s : Story) (scope : Scope) (items : List Item) (step : Step)
     → foundRuns s (over scope items (step ∷ [])) ≡ foundIn s scope (bracket step) items

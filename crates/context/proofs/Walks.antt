@@ -5,7 +5,6 @@ use Prim.Native.Nat.{ℕ, zero, suc, _+_, _-_, _≤_, _<_}
 use native.Mathlib.Numerals.{add-one, sub-one}
 use native.Mathlib.Omega.{arith}
 use lib.ListN.{length, take, drop}
-use lib.Seq.{drop-length}
 use Rattle.story.specs.declared.Sections.{Sections}
 use Rattle.story.specs.Story.{What, Item, whats}
 use Rattle.story.specs.Items.{itemOf, itemAs}

@@ -68,6 +68,7 @@ passes =
     pass.Temps ∷ pass.Targets ∷ pass.Calls ∷ pass.Choices ∷ pass.VariableDiverts
     ∷ pass.Temps ∷ pass.Targets ∷ pass.Calls ∷ pass.VariableDiverts ∷ pass.Variables ∷ pass.Gathers ∷ []
 
+-- the pass of a number
 unfoldable pub passAt : ℕ → Pass
 passAt n = getD passes n pass.Purity
 

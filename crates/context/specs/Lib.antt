@@ -1,2 +1,3 @@
+-- The definitions on what the steps find.
 pub mod Found
 pub mod Scopes

@@ -14,9 +14,10 @@ use Rattle.searches.specs.declared.views.FlowView.{FlowView}
 use Rattle.searches.specs.declared.views.StitchView.{StitchView}
 use Rattle.searches.specs.Views.{viewedFlow}
 use Rattle.bodies.specs.Bodies.{bodyIn, Range, Fetched}
+use Rattle.symbols.specs.Numbers.{absent}
 use Rattle.rules.specs.declared.Rule.{Rule}
 use Rattle.rules.specs.Rules.{Here, knot}
-use Rattle.rules.specs.Steps.{s5, s6, s12, bracket, flowSteps, Run, over, nameItem, paramItems, purityItems, absent}
+use Rattle.rules.specs.Steps.{s5, s6, s12, bracket, flowSteps, Run, over, nameItem, paramItems, purityItems}
 use Rattle.checks.specs.declared.ScopeView.{ScopeView}
 use Rattle.checks.specs.Context.{knownIn, hereAt, StitchesReady}
 use Rattle.context.specs.declared.Found.{Found}
@@ -26,6 +27,7 @@ use Rattle.context.specs.Found.{foundAlong, foundRuns, foundPasses, clea
 
 -- 1. The root of a file of so many bytes, a flow, a stitch of a flow
 
+-- the root
 abbrev pub rootView : Sections → ℕ → ScopeView
 rootView c n = record {
   inner = false;
@@ -40,6 +42,7 @@ rootView c n = record {
   end = c .flows;
 }
 
+-- a flow
 abbrev pub knotView : FlowView → ScopeView
 knotView v = record {
   inner = false;
@@ -54,6 +57,7 @@ knotView v = record {
   end = v .end;
 }
 
+-- a stitch of a flow
 abbrev pub stitchView : FlowView → StitchView → ScopeView
 stitchView v w = record {
   inner = true;
@@ -104,6 +108,7 @@ pub record Walked (file : List ℕ) (c : Sections) (v : ScopeView) (rules : List
   pub answer : r ≡ foundAlong (knownIn c file) (hereAt file v) (v .flow) rules [] (bodyIn file (v .from) (v .to))
   pub held : r ≡ found.Clear → Held file v items batch
 
+-- what passes along the body find
 abbrev pub passesFound : List ℕ → Sections → ScopeView → List Pass → Found
 passesFound file c v ps = foundPasses (knownIn c file) (hereAt file v) (v .flow) ps (bodyIn file (v .from) (v .to))
 
@@ -111,6 +116,7 @@ passesFound file c v ps = foundPasses (knownIn c file) (hereAt file v) (v .flow)
 abbrev pub passesClear : List ℕ → Sections → ScopeView → List Pass → Bool
 passesClear file c v ps = clearAlong (knownIn c file) (hereAt file v) ps [] (bodyIn file (v .from) (v .to))
 
+-- passes tested together along the body
 pub record Cleared (file : List ℕ) (c : Sections) (v : ScopeView) (ps : List Pass) (items : ℕ) (r : Bool) (batch : List ℕ) : Type 0 where
   pub answer : r ≡ passesClear file c v ps
   pub held : Held file v items batch

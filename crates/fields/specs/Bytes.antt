@@ -23,6 +23,7 @@ pick false x y = y
 abbrev pub le32 : ℕ → ℕ → ℕ → ℕ → ℕ
 le32 a b c d = a + b * 256 + c * 65536 + d * 16777216
 
+-- the number at the offset
 abbrev pub le32At : List ℕ → ℕ → ℕ
 le32At s i = le32 (getD s i 0) (getD s (i + 1) 0) (getD s (i + 2) 0) (getD s (i + 3) 0)
 
@@ -57,5 +58,6 @@ testSpanAt flag.Off s = 1
 testSpanAt flag.On s = 1 + headSpan (headOf (drop 1 s))
 testSpanAt (flag.Refused r) s = 1
 
+-- the same, of the bytes
 abbrev pub testSpan : List ℕ → ℕ
 testSpan s = testSpanAt (flagOf s) s

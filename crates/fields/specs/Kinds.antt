@@ -20,6 +20,7 @@ exprKinds r =
     ∷ Known (Exprs 2 r)
     ∷ []
 
+-- an expression by its kind
 unfoldable pub exprKind : Role → ℕ → Kinded
 exprKind r k = getD (exprKinds r) k None
 
@@ -27,6 +28,7 @@ exprKind r k = getD (exprKinds r) k None
 abbrev pub condKinds : List Kinded
 condKinds = Known (Exprs 0 Visited) ∷ Known Single ∷ Known (Exprs 1 Visited) ∷ []
 
+-- a condition by its kind
 unfoldable pub condKind : ℕ → Kinded
 condKind k = getD condKinds k None
 
@@ -53,6 +55,7 @@ nodeKinds =
     ∷ Known (Call Visited)
     ∷ []
 
+-- a node by its kind
 unfoldable pub nodeKind : ℕ → Kinded
 nodeKind k = getD nodeKinds k None
 
@@ -65,6 +68,7 @@ kindOf Visited k = exprKind Visited k
 kindOf Argument k = exprKind Unvisited k
 kindOf Unvisited k = exprKind Unvisited k
 
+-- a number for each role
 unfoldable pub roleNumber : Role → ℕ
 roleNumber Node = 0
 roleNumber Branch = 1

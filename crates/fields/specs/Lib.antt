@@ -1,3 +1,4 @@
+-- The definitions on fields.
 pub mod Bytes
 pub mod Kinds
 pub mod Refusals

@@ -3,6 +3,7 @@ use Prim.Native.Nat.{ℕ}
 use Rattle.fields.specs.declared.Refusal.{Refusal}
 use Rattle.fields.specs.declared.Refusal.the-variants.{Length, Mark, Starts, Short, Unknown, Deep}
 
+-- the paper's number
 unfoldable pub refusalNumber : Refusal → ℕ
 refusalNumber Length = 1
 refusalNumber Mark = 2

@@ -65,11 +65,13 @@ pub enum Body {
     Choice,
 }
 
+// How the payload of a kind is read, or that there is no such kind.
 pub enum Kinded {
     Known(Body),
     None,
 }
 
+// A byte as a number of 64 bits.
 fn wide(b: u8) -> usize
     ensures { λ r. ⌜ r ≡ b ⌝ }
 {

@@ -45,11 +45,6 @@ module _ {file : List ℕ} {params from to : ℕ} where
   pub declared-none : (filter : List ℕ) → length filter ≡ 0 → Declared file params from to filter
   declared-none filter h = record { covers = covers-none filter h _ }
 
-  -- it stays so while items are passed
-  pub declared-passed : {filter after : List ℕ} → Declared file params from to filter → (w : What) → after ≡ passed filter w → Declared file params from to after
-  unfolding passed
-  declared-passed d w e = record { covers = rw e (covers-all (sortNamed (code gather) w) (d .covers)) }
-
 -- the filter lacks the name, so that it is not forbidden
 pub not-forbidden : {file filter : List ℕ} (v : ScopeView) → Declared file (v .outer) (v .body) (v .stitches) filter
     → (n : Bytes) {r : Bool} → r ≡ lacks filter n → r ≡ true → false ≡ hereAt file v .forbidden n

@@ -77,9 +77,6 @@ holds-none filter = record { kept = λ w h. absurd (true≢false (sym h)) }
 holds-own : (filter : List ℕ) (w : Bytes) → Covers (added filter w) (λ (v : Bytes). same v w)
 holds-own filter w = record { kept = λ v h. rw (same-eq v w (rw h tt)) (added-found filter w) }
 
-pub holds-added : {filter : List ℕ} (ws : List Bytes) → Holds filter ws → (w : Bytes) → Holds (added filter w) (w ∷ ws)
-holds-added {filter} ws holds w = covers-or (holds-own filter w) (covers-added holds w)
-
 pub holds-all : (ws : List Bytes) (filter : List ℕ) → Holds (addedAll filter ws) ws
 unfolding addedAll
 holds-all [] filter = holds-none filter

@@ -1,13 +1,12 @@
 -- A filter without words, and the byte at a word's slot. Assumes nothing.
 use mathlib.Core.Path.{_≡_, refl, sym, _∙_}
-use mathlib.Core.Bool.{true, false}
+use mathlib.Core.Bool.{false}
 use mathlib.Core.List.{List, [], _∷_}
 use Prim.Native.Nat.{ℕ, zero, suc, _+_, _%_, _≤_, _<_}
-use native.Mathlib.Nat.{mod-lt}
 use native.Mathlib.Numerals.{add-one}
 use native.Mathlib.Omega.{arith}
 use lib.Dec.{eqb}
-use lib.ListN.{length, getD, take, set, replicate, length-replicate, getD-replicate, replicate-append-replicate}
+use lib.ListN.{length, getD, take, set, replicate, replicate-append-replicate}
 use lib.Seq.{take-all, take-suc-set, set-out}
 use Rattle.names.specs.Words.{Bytes}
 use Rattle.tables.specs.Hashes.{hashOf}
@@ -32,11 +31,6 @@ module _ {filter : List ℕ} {i : ℕ} (cleared : Cleared filter i) where
   pub cleared-end : (before : List ℕ) → length filter ≤ i → i ≤ length filter → length filter ≡ length before → filter ≡ replicate (length before) 0
   cleared-end before h k e =
       let n : i ≡ length before = omega arith in sym (take-all i filter h) ∙ cleared .front ∙ rw n
-
--- with slots, it lacks every word
-pub cleared-lacks : (n : ℕ) (w : Bytes) → 0 < n → lacks (replicate n 0) w ≡ true
-unfolding lacks
-cleared-lacks n w h = rw (length-replicate, getD-replicate {A = ℕ} n (hashOf w % n) 0 1 (mod-lt (hashOf w) h))
 
 -- 2. The byte at a word's slot
 

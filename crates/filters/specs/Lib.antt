@@ -1,2 +1,3 @@
+-- The definitions on filters.
 pub mod Words
 pub mod Names

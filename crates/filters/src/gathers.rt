@@ -15,7 +15,7 @@ use crate::words::add_item;
 use crate::words::lacks_word;
 use bodies::items::GATHER;
 use bodies::items::item_name;
-use bodies::searches::has_gather_before;
+use bodies::named::has_gather_before;
 use checks::Judged;
 use checks::Slot;
 use checks::structure::is_sort;

@@ -26,11 +26,12 @@ use Rattle.lookups.specs.declared.LookupResult.{LookupResult}
 use Rattle.lookups.specs.Numbers.{refusalOf}
 use Rattle.lookups.specs.Meaning.{Meant}
 
--- an entry by its whole spelling, else by its ending
+-- an entry found by its ending
 unfoldable pub endingOf : Found → LookupAnswer
 endingOf (found.At k) = answer.Ending k
 endingOf found.Nowhere = answer.Missing
 
+-- an entry found by its whole spelling, else by its ending
 unfoldable pub entryOf : Found → Found → LookupAnswer
 entryOf (found.At k) other = answer.Exact k
 entryOf found.Nowhere other = endingOf other

@@ -27,6 +27,7 @@ pub record Matches (f : Bytes → Bool) (spelled : List Bytes) (k : ℕ) : Type 
   pub within : k < length spelled
   pub passes : f (getD spelled k []) ≡ true
 
+-- THE MEANING of an answer to the target
 pub record Meant (s : Story) (t : Bytes) (a : LookupAnswer) : Type 0 where
   -- 3, Exact: the entry is spelled as the target
   pub exact : (k : ℕ) → answerNumber a ≡ some 3 → entryNumber a ≡ some k → Sought (s .flows) t × Matches (same t) (spellings s) k

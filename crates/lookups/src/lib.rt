@@ -1,8 +1,6 @@
 // A target looked up in a story file, without regard to where a divert stands.
 ghost use mathlib.Core.Path.{_≡_};
 ghost use mathlib.Core.List.{_∷_};
-ghost use Prim.Native.Nat.{_≤_};
-ghost use lib.ListN.{length};
 ghost use Rattle.names.specs.Words.{same, ends};
 ghost use Rattle.story.specs.File.{storyIn, InOrder};
 ghost use Rattle.symbols.specs.Rows.{spellingsIn, firstOf};

@@ -1,2 +1,3 @@
+-- The laws on messages.
 pub mod Wrote
 pub mod Length

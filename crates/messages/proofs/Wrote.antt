@@ -1,6 +1,6 @@
 -- Bytes written over a buffer: byte by byte, pieces one after the other, and a text that fits. Assumes nothing.
 use mathlib.Core.Path.{_≡_, refl, sym, _∙_, ap}
-use mathlib.Core.List.{List, [], _∷_, _++_, append-assoc}
+use mathlib.Core.List.{List, _++_, append-assoc}
 use Prim.Native.Nat.{ℕ, _+_, _≤_, _<_}
 use native.Mathlib.Nat.{add-assoc, le-antisymm, zero-add}
 use native.Mathlib.Numerals.{add-one}
@@ -9,7 +9,7 @@ use lib.ListN.{length, take, drop, getD, set, length-set, length-append}
 use lib.Seq.{paste, paste-zero, paste-suc, length-paste, take-paste, drop-paste, take-length, drop-drop}
 use Rattle.names.specs.Words.{Bytes}
 use Rattle.rules.specs.declared.Rule.{Rule}
-use Rattle.messages.specs.Messages.{message, overwritten, Wrote, Message}
+use Rattle.messages.specs.Messages.{message, Wrote, Message}
 
 -- the first i bytes of a piece are copied into the buffer from `at` on
 pub record Copied (buffer : List ℕ) (at : ℕ) (piece : Bytes) (i : ℕ) (now : List ℕ) : Type 0 where

@@ -1,1 +1,2 @@
+-- The definitions on messages.
 pub mod Messages

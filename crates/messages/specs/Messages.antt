@@ -8,10 +8,11 @@ use Rattle.names.specs.Text.{ascii}
 use Rattle.rules.specs.declared.Rule.{Rule}
 use Rattle.rules.specs.declared.Rule.the-variants.{FunctionDivertedTo, TargetNotFound, FlowCalled, NameIsFunction, NameIsGlobal, TempIsParameter, TempIsLabel, ParameterUnmarked, ParameterAlreadyMarked, GatherRepeated, ChoiceUndiverted, FunctionWithStitches, FunctionWithChoice, FunctionWithDivert, VariableForbidden}
 
--- a text around one name, and around two
+-- a text around one name
 abbrev pub around : Bytes → Bytes → Bytes → Bytes
 around opening name closing = opening ++ (name ++ closing)
 
+-- a text around two names
 abbrev pub aroundBoth : Bytes → Bytes → Bytes → Bytes → Bytes → Bytes
 aroundBoth opening first middle second closing = opening ++ (first ++ around middle second closing)
 

@@ -1,13 +1,12 @@
 -- Names in a file: what stands at a place, by where the file ends, and the words of a table one after the other. Assumes nothing.
-use mathlib.Core.Path.{_≡_, sym, _∙_}
-use mathlib.Core.List.{List, [], _++_}
+use mathlib.Core.Path.{_≡_, _∙_}
+use mathlib.Core.List.{List, []}
 use Prim.Native.Nat.{ℕ, _+_, _-_, _≤_}
-use native.Mathlib.Nat.{add-zero, add-assoc}
+use native.Mathlib.Nat.{add-zero}
 use native.Mathlib.Omega.{arith}
 use lib.ListN.{length, getD, take, drop, length-take, length-drop, drop-of-length-le}
-use lib.Seq.{take-all, take-nil, drop-length, drop-drop, getD-drop, take-append-seam, drop-append-seam, drop-append-add}
-use Rattle.names.specs.Words.{Bytes}
-use Rattle.names.specs.Counted.{nameAt, counted}
+use lib.Seq.{take-all, take-nil, drop-length, getD-drop}
+use Rattle.names.specs.Counted.{nameAt}
 
 module _ (file : List ℕ) (at : ℕ) where
   -- the count is the byte at the place
@@ -36,13 +35,3 @@ module _ (file : List ℕ) (at : ℕ) where
   -- a name has no more bytes than its count says
   pub name-length : length (nameAt file at) ≤ getD file at 0
   name-length = rw name-counted (simp length-take (omega arith))
-
--- a part of the file has the file's names
-pub name-drop : (file : List ℕ) (from at : ℕ) → nameAt (drop from file) at ≡ nameAt file (from + at)
-name-drop file from at =
-    name-counted (drop from file) at ∙ rw (getD-drop, drop-drop, ← add-assoc) (sym (name-counted file (from + at)))
-
--- a counted word stands after any bytes, and before any
-pub name-in : (before : Bytes) (w : Bytes) (after : Bytes) → nameAt (before ++ (counted w ++ after)) (length before) ≡ w
-unfolding nameAt
-name-in before w after = rw (drop-append-seam, drop-append-add) (take-append-seam w after)

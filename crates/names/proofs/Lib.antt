@@ -1,7 +1,6 @@
 -- The laws on names.
 pub mod Bools
 pub mod Words
-pub mod Parts
 pub mod Any
 pub mod Lists
 pub mod Means

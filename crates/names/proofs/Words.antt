@@ -8,10 +8,10 @@ use native.Mathlib.Omega.{arith}
 use native.Mathlib.Numerals.{add-one}
 use lib.Dec.{T, eqb, eqb→eq, eqb-refl}
 use lib.ListN.{length, getD, take, drop, length-append, length-drop, take-append-drop, drop-of-length-le}
-use lib.Seq.{drop-cons, take-all}
+use lib.Seq.{drop-cons}
 use borrow.Author.Tests.{eq-eqb, ne-eqb}
 use Rattle.names.specs.Words.{Bytes, same, begins, ends}
-use Rattle.names.proofs.Bools.{bool-ext, is-false, and-left, and-right, and-both, or-cases, or-left, or-right}
+use Rattle.names.proofs.Bools.{is-false, and-left, and-right, and-both, or-cases, or-left, or-right}
 
 -- SAME
 pub same-eq : (a b : Bytes) → T (same a b) → a ≡ b
@@ -27,9 +27,6 @@ same-refl (x ∷ xs) = and-both (eqb x x) (same xs xs) (eqb-refl x) (same-refl x
 
 pub eq-same : (a b : Bytes) → a ≡ b → T (same a b)
 eq-same a b e = subst (λ (x : Bytes). T (same a x)) e (same-refl a)
-
-pub same-swap : (a b : Bytes) → same a b ≡ same b a
-same-swap a b = bool-ext (same a b) (same b a) (λ h. eq-same b a (sym (same-eq a b h))) (λ h. eq-same a b (sym (same-eq b a h)))
 
 -- names of two lengths are not the same
 pub same-lengths : (a b : Bytes) → (length a ≡ length b → ⊥) → same a b ≡ false
@@ -104,9 +101,3 @@ ends-at end w h =
     let n = length w - length end in
     let l : length end ≡ length (drop n w) = simp length-drop (omega arith) in
     ap (ends end) (sym (take-append-drop n w)) ∙ ends-last end (take n w) (drop n w) (omega arith) ∙ ends-whole end (drop n w) l
-
--- the part of the word that has these bytes
-pub ends-part : (end w : Bytes) → length end ≤ length w
-    → same end (take (length w - (length w - length end)) (drop (length w - length end) w)) ≡ ends end w
-ends-part end w h =
-    rw (ends-at end w h, take-all (length w - (length w - length end)) (drop (length w - length end) w) (simp length-drop (omega arith)))

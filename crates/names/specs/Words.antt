@@ -1,9 +1,10 @@
 -- Names as lists of bytes, and the tests on names and lists that the rules use. Assumes nothing.
-use mathlib.Core.Bool.{Bool, true, false, not, _&&_, _||_}
+use mathlib.Core.Bool.{Bool, true, false, _&&_, _||_}
 use mathlib.Core.List.{List, [], _∷_, _++_, List·Memᴰ}
 use Prim.Native.Nat.{ℕ}
 use lib.Dec.{eqb}
 
+-- a name or another word, as bytes
 abbrev pub Bytes : Type 0
 Bytes = List ℕ
 

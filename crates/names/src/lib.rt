@@ -2,7 +2,7 @@
 ghost use mathlib.Core.Path.{_≡_};
 ghost use mathlib.Core.Bool.{_||_};
 ghost use mathlib.Core.List.{[], _∷_};
-ghost use Rattle.names.specs.Words.{same, one-of, ends};
+ghost use Rattle.names.specs.Words.{same, one-of};
 ghost use Rattle.names.specs.Reserved.{END, DONE, back, builtins};
 ghost use Rattle.names.specs.Targets.{passes};
 ghost use Rattle.names.specs.Counted.{nameAt};
@@ -23,17 +23,6 @@ pub fn same_name(a: &[u8], b: &[u8]) -> bool
         i += 1;
     }
     true
-}
-
-// The name s ends in the other.
-pub fn ends_with(s: &[u8], end: &[u8]) -> bool
-    ensures { λ r. ⌜ r ≡ ends (now (end .entry)) (now (s .entry)) ⌝ }
-{
-    if end.len() <= s.len() {
-        let from = s.len() - end.len();
-        return same_name(end, &s[from..]);
-    }
-    false
 }
 
 // The target passes without being looked up: empty, "->", or starting with "$".

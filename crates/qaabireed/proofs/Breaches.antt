@@ -7,10 +7,11 @@ use native.Mathlib.Omega.{arith}
 use lib.Dec.{lit<}
 use Rattle.names.specs.Words.{_∈_}
 use Rattle.story.specs.Story.{Name, parameter, Item, Story}
+use Rattle.symbols.specs.Numbers.{absent}
 use Rattle.rules.specs.declared.Rule.{Rule}
 use Rattle.rules.specs.declared.Rule.the-variants.{FunctionDivertedTo, TargetNotFound, FlowCalled, NameIsFunction, NameIsGlobal, TempIsParameter, TempIsLabel, ParameterUnmarked, ParameterAlreadyMarked, GatherRepeated, ChoiceUndiverted, FunctionWithStitches, FunctionWithChoice, FunctionWithDivert, VariableForbidden}
 use Rattle.rules.specs.Rules.{number}
-use Rattle.rules.specs.Steps.{Run, nameItem, runs, absent, flowNamed, Breach}
+use Rattle.rules.specs.Steps.{Run, nameItem, runs, flowNamed, Breach}
 use Rattle.rules.specs.Meaning.{Ran, ran-root, ran-purity, ran-no-purity, ran-params, ran-flow, ran-name, ran-stitch, NamesAre, Stands}
 use Rattle.rules.proofs.Numbered.{number-in}
 use Rattle.rules.proofs.Ran.{only-steps}
@@ -48,6 +49,7 @@ module _ {end : ℕ} (s : Story) (w : StoryWithin end s) (short : end ≤ 104857
 
 -- 2. The names of a rule
 
+-- each of the two has 32 bits
 abbrev pub NamesNarrow : ℕ × ℕ → Type 0
 NamesNarrow names = (names .0 < 2 ^ 32) × (names .1 < 2 ^ 32)
 
@@ -94,6 +96,7 @@ rule-narrow VariableForbidden = lit< tt
 
 -- 3. A breach
 
+-- rule, place and names have 32 bits each
 pub record BreachNarrow (b : Breach) : Type 0 where
   pub rule : number (b .rule) < 2 ^ 32
   pub place : b .place < 2 ^ 32

@@ -50,6 +50,7 @@ breached-narrow rule place names n k a b c h l = (lit< tt, (a, (b, (c .0, (c .1,
 
 -- 2. What is reported of a readable file
 
+-- judgement, entry count and message length are those of the file's story
 record Counted (file : List ℕ) (j : Judged) (n k : ℕ) : Type 0 where
   sections : Sections
   opens : readOf file ≡ opened.At sections

@@ -7,13 +7,13 @@ use lib.ListN.{length, drop, length-take, length-drop}
 use lib.Seq.{drop-drop}
 use Rattle.names.specs.Words.{_∈_}
 use Rattle.records.specs.Trace.{well, ends}
-use Rattle.records.specs.Grammar.{Reading, repeat, ending}
+use Rattle.records.specs.Grammar.{Reading, ending}
 use Rattle.records.proofs.Places.{lies-within}
 use Rattle.story.specs.declared.Sections.{Sections}
 use Rattle.story.specs.declared.Heading.{Heading}
 use Rattle.story.specs.Story.{Name, Item, Stitch, Flow, Story}
 use Rattle.story.specs.Items.{nameIn, itemsIn}
-use Rattle.story.specs.Flows.{piece, stitch, flow, countedIn, part, stitchIn, flowIn, flowsIn}
+use Rattle.story.specs.Flows.{stitch, flow, countedIn, part, stitchIn, flowIn, flowsIn, stitches}
 use Rattle.story.specs.File.{storyIn}
 use Rattle.story.proofs.Unfolding.{titled-in, flow-in}
 use Rattle.story.proofs.Readable.{Readable, flows-pieces, TitledWell, titled-heading, flow-titled, stitch-titled}
@@ -36,14 +36,17 @@ items-within b end t h i m =
 
 -- 2. Titles, stitches and flows
 
+-- name, parameters and items stand before the end
 pub record TitleWithin (end : ℕ) (n : Name) (ps : List Name) (items : List Item) : Type 0 where
   pub name : n .at < end
   pub params : (m : Name) → m ∈ ps → m .at < end
   pub body : (i : Item) → i ∈ items → ItemWithin end i
 
+-- those of a stitch
 abbrev pub StitchWithin : ℕ → Stitch → Type 0
 StitchWithin end t = TitleWithin end (t .name) (t .params) (t .body)
 
+-- those of a flow, and of its stitches
 pub record FlowWithin (end : ℕ) (f : Flow) : Type 0 where
   pub at : f .at < end
   pub own : TitleWithin end (f .name) (f .params) (f .body)
@@ -75,7 +78,7 @@ stitch-within p u l good =
 flow-within : {file : List ℕ} (p : ℕ) (u : List ℕ) → Lies file (p + 4) u → ends (flow u) ≡ well → FlowWithin (length file) (flowIn p u)
 flow-within {file} p u l good =
     let f = flow-titled u good in
-    let d = titled-heading (repeat (piece stitch)) (drop 1 u) (f .1) in
+    let d = titled-heading stitches (drop 1 u) (f .1) in
     let h = d .0 in
     let begin : p + 4 + 1 ≡ p + 5 = omega arith in
     let after : p + 4 + (1 + h .end) ≡ p + (5 + h .end) = omega arith in
@@ -87,6 +90,7 @@ flow-within {file} p u l good =
 
 -- 3. A story
 
+-- those of a story
 pub record StoryWithin (end : ℕ) (s : Story) : Type 0 where
   pub root : (i : Item) → i ∈ s .root → ItemWithin end i
   pub flows : (f : Flow) → f ∈ s .flows → FlowWithin end f

@@ -1,2 +1,3 @@
+-- The definitions on the library's calls.
 pub mod Numbers
 pub mod Calls

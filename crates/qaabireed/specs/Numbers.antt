@@ -2,7 +2,7 @@
 use Prim.Native.Nat.{ℕ, _<_, _^_}
 use mathlib.Core.List.{List, [], _∷_}
 use mathlib.Core.Option.{Option, none, some}
-use Rattle.rules.specs.Steps.{absent}
+use Rattle.symbols.specs.Numbers.{absent}
 use Rattle.lookups.specs.declared.LookupAnswer.{LookupAnswer}
 use Rattle.lookups.specs.Numbers.{refusalOf, answerNumber, entryNumber}
 use Rattle.validator.specs.Results.{Judged, accepted, breach, Result, refused, checked}
@@ -12,6 +12,7 @@ abbrev pub judgedNumbers : Judged → ℕ → ℕ → List ℕ
 judgedNumbers accepted entries size = 0 ∷ 0 ∷ absent ∷ absent ∷ absent ∷ entries ∷ size ∷ []
 judgedNumbers (breach rule place names) entries size = 1 ∷ rule ∷ place ∷ names .0 ∷ names .1 ∷ entries ∷ size ∷ []
 
+-- the same of a refusal
 abbrev pub refusedNumbers : ℕ → List ℕ
 refusedNumbers n = 2 ∷ n ∷ absent ∷ absent ∷ absent ∷ 0 ∷ 0 ∷ []
 

@@ -29,14 +29,14 @@ use Rattle.fields.specs.declared.Kinded.the-variants as kinded
 use Rattle.fields.specs.Bytes.{pick, headOf, listOf, nameOf, flagOf}
 use Rattle.fields.specs.Kinds.{kindOf}
 use Rattle.fields.proofs.Laws.{head-fits, list-fits, name-fits, off-fits, on-fits, head-take}
+use Rattle.names.specs.Words.{Sorted}
 use Rattle.records.specs.Trace.{Trace, done, refuse, emit, andThen, shift, Record, met}
 use Rattle.records.specs.Grammar.{Reading, Reader, frontAt, front, ending, repeatN, repeat, records, exact, listedAt, listed, namedAt, named, flaggedAt, flagged, moded, last, orElse, arms, options, tested, branch, bodyOf, whole, tooDeep, recordOf, nodes}
-use Rattle.records.specs.Sorted.{Sorted}
 use Rattle.records.specs.Stands.{Stands}
 
 -- 1. A record that stands in a part stands in the whole
 
-drop-take : (p n : ℕ) (s : List ℕ) → drop p (take n s) ≡ take (n - p) (drop p s)
+pub drop-take : (p n : ℕ) (s : List ℕ) → drop p (take n s) ≡ take (n - p) (drop p s)
 drop-take zero n s = simp unary-clauses
 drop-take (suc p) zero s = rw (zero-sub (suc p))
 drop-take (suc p) (suc n) [] = simp (unary-clauses, take-nil)
@@ -92,9 +92,11 @@ module _ (s : List ℕ) where
 
 -- 3. The grammar: each reading places its records within its bytes, and each reader of a record within the record
 
+-- the records of a reading are placed
 abbrev Places : Reading → Type 0
 Places k = (s : List ℕ) → Placed s 0 (length s) (k s)
 
+-- those of a record, by its reader
 abbrev PlacesRecord : Reader → Type 0
 PlacesRecord f = (s : List ℕ) (kind n : ℕ) → headOf s ≡ head.Piece kind n → Placed s 0 (5 + n) (f kind (take n (drop 5 s)))
 
@@ -250,6 +252,7 @@ met-placed s lo hi b (emit role kind p bs t) h r m = by-cases (λ i. met-placed 
     by-cases later (inl e) = (p, ap (λ (x : Record). x .place) e, h .0, subst (λ (x : Record). Stands s p (x .kind) (x .payload)) (sym e) (h .1))
     by-cases later (inr i) = let x = later i in (x .0, x .1, omega (arith, x .2, h .0), x .3)
 
+-- at an earlier place
 abbrev pub Before : Record → Record → Type 0
 Before x y = x .place < y .place
 

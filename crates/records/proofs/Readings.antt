@@ -23,7 +23,7 @@ use Rattle.records.proofs.Traces.{shift-then, shift-shift, then-done, d
 -- 1. Pieces to the end
 
 -- g looks at what it is given only where bytes are gone
-pub Local : (Reading → Reading) → Type 0
+unfoldable pub Local : (Reading → Reading) → Type 0
 Local g = (s : List ℕ) (j k : Reading) → ((a : ℕ) → 0 < a → j (drop a s) ≡ k (drop a s)) → g j s ≡ g k s
 
 pub front-local : (f : Reader) → Local (front f)

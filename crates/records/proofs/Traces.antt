@@ -4,7 +4,7 @@ use Prim.Native.Nat.{ℕ, _+_}
 use native.Mathlib.Nat.{add-assoc}
 use Rattle.fields.specs.declared.Refusal.{Refusal}
 use Rattle.records.specs.Trace.{Trace, done, refuse, emit, andThen, shift}
-use Rattle.records.specs.Work.{ended, Visitor, bind, run}
+use Rattle.records.specs.Work.{Visitor, bind, run}
 
 -- 1. Traces
 

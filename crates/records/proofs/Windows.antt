@@ -1,11 +1,11 @@
--- What stands in a window, and that windows one after the other give the whole list. Assumes nothing.
+-- What stands in a window. Assumes nothing.
 use mathlib.Core.Path.{_≡_, refl, ap, _∙_}
-use mathlib.Core.List.{List, [], _∷_, _++_}
-use Prim.Native.Nat.{ℕ, zero, suc, _+_, _-_, _*_, _/_, _≤_, _<_}
+use mathlib.Core.List.{List, [], _∷_}
+use Prim.Native.Nat.{ℕ, zero, suc, _+_, _*_, _/_, _≤_, _<_}
 use native.Mathlib.Numerals.{add-one}
 use native.Mathlib.Omega.{arith}
-use lib.ListN.{length, getD, take, drop, length-append, length-take, length-drop, take-append-drop, List·getD-append}
-use lib.Seq.{take-at, drop-drop, getD-take, getD-drop, getD-append-add}
+use lib.ListN.{length, getD, take, drop, length-append, length-take, length-drop, List·getD-append}
+use lib.Seq.{getD-take, getD-drop}
 use Rattle.fields.specs.Kinds.{tagOf}
 use Rattle.records.specs.Trace.{Record}
 use Rattle.records.specs.Window.{pairs, overlay, window}
@@ -19,11 +19,6 @@ pub pairs-length : (rs : List Record) → length (pairs rs) ≡ 2 * length rs
 unfolding pairs
 pairs-length [] = refl
 pairs-length (r ∷ rs) = rw (twice (length rs), pairs-length rs)
-
-pub pairs-append : (rs qs : List Record) → pairs (rs ++ qs) ≡ pairs rs ++ pairs qs
-unfolding pairs
-pairs-append [] qs = refl
-pairs-append (r ∷ rs) qs = ap (λ (l : List ℕ). r .place ∷ tagOf (r .role) (r .kind) ∷ l) (pairs-append rs qs)
 
 module _ (d : Record) where
   pairs-place : (j : ℕ) (rs : List Record) → j < length rs → getD (pairs rs) (2 * j) 0 ≡ getD rs j d .place
@@ -74,18 +69,3 @@ module _ (skip : ℕ) (rs : List Record) (out : List ℕ) where
         (List·getD-append (pairs shown) (drop (length (pairs shown)) out) 0 (suc (2 * j)) (omega (arith, pairs-length shown, in-window))
         ∙ pairs-tag d j shown in-window
         ∙ ap (λ (r : Record). tagOf (r .role) (r .kind)) same-record)
-
-  -- what stands behind the records shown is as it was
-  pub window-rest : (i : ℕ) → 2 * (length rs - skip) ≤ i → getD (window skip rs out) i 0 ≡ getD out i 0
-  unfolding window overlay
-  window-rest i p =
-      let n = length (pairs shown) in
-      let fits : n ≤ i = omega (arith, pairs-length shown, length-take (length out / 2) (drop skip rs), length-drop skip rs) in
-      let e : n + (i - n) ≡ i = omega arith in
-      rw e at (getD-append-add (pairs shown) (drop n out) (i - n) 0 ∙ getD-drop n out (i - n) 0)
-
-  -- the records from number skip on are those that the window shows, and those from number skip + room on
-  pub windows-joined : pairs (drop skip rs) ≡ take (2 * length shown) (window skip rs out) ++ pairs (drop (skip + length out / 2) rs)
-  unfolding window overlay
-  windows-joined =
-      rw (take-at (pairs shown) (drop (length (pairs shown)) out) (2 * length shown) (pairs-length shown), ← drop-drop (length out / 2) skip rs, ← pairs-append, take-append-drop)

@@ -22,10 +22,11 @@ use Rattle.fields.specs.Bytes.{pick, headOf, listOf, nameOf, flagOf}
 use Rattle.fields.specs.Kinds.{kindOf}
 use Rattle.records.specs.Trace.{Trace, done, refuse, emit, andThen, shift}
 
--- a reading of bytes; and a reader of one record, by its kind and its payload, whose places count from its kind byte
+-- a reading of bytes
 abbrev pub Reading : Type 0
 Reading = List ℕ → Trace
 
+-- a reader of one record, by its kind and its payload, whose places count from its kind byte
 abbrev pub Reader : Type 0
 Reader = ℕ → Reading
 
@@ -34,6 +35,7 @@ unfoldable pub frontAt : Head → Reader → Reading → Reading
 frontAt (head.Piece kind n) f k s = andThen (f kind (take n (drop 5 s))) (shift (5 + n) (k (drop (5 + n) s)))
 frontAt head.Cut f k s = refuse Short
 
+-- the same, by the head that the bytes have
 abbrev pub front : Reader → Reading → Reading
 front f k s = frontAt (headOf s) f k s
 
@@ -70,6 +72,7 @@ unfoldable pub listedAt : Span → Reader → Reading → Reading
 listedAt (span.Bytes n) f k s = andThen (shift 4 (records f (take n (drop 4 s)))) (shift (4 + n) (k (drop (4 + n) s)))
 listedAt span.Cut f k s = refuse Short
 
+-- the same, by the length that the bytes have
 abbrev pub listed : Reader → Reading → Reading
 listed f k s = listedAt (listOf s) f k s
 
@@ -78,6 +81,7 @@ unfoldable pub namedAt : NameRead → Reading → Reading
 namedAt (name.Bytes n) k s = shift (1 + n) (k (drop (1 + n) s))
 namedAt (name.Refused r) k s = refuse r
 
+-- the same, by the name that the bytes have
 abbrev pub named : Reading → Reading
 named k s = namedAt (nameOf s) k s
 
@@ -87,6 +91,7 @@ flaggedAt flag.Off j k s = shift 1 (j (drop 1 s))
 flaggedAt flag.On j k s = shift 1 (k (drop 1 s))
 flaggedAt (flag.Refused r) j k s = refuse r
 
+-- the same, by the flag that the bytes have
 abbrev pub flagged : Reading → Reading → Reading
 flagged j k s = flaggedAt (flagOf s) j k s
 
@@ -130,6 +135,7 @@ bodyOf body.Sequence f s = repeat (listed (f Node)) s
 bodyOf body.Assign f s = moded (named (exact 1 (f Visited))) s
 bodyOf body.Choice f s = flagged (options f) (named (options f)) s
 
+-- a record of this kind: itself, then its payload
 unfoldable pub whole : Kinded → (Role → Reader) → Role → Reader
 whole (kinded.Known b) f role kind s = emit role kind 0 s (shift 5 (bodyOf b f s))
 whole kinded.None f role kind s = refuse Unknown

@@ -1,6 +1,6 @@
+-- The definitions on records.
 pub mod Trace
 pub mod Grammar
 pub mod Window
 pub mod Work
-pub mod Sorted
 pub mod Stands

@@ -39,10 +39,12 @@ met b (emit role kind p bs t) = record { role = role; kind = kind; place = b + p
 unfoldable pub moved : ℕ → Record → Record
 moved a r = record { role = r .role; kind = r .kind; place = a + r .place; payload = r .payload }
 
+-- how reading ended
 pub data Ending : Type 0 where
   well : Ending
   refused : Refusal → Ending
 
+-- the ending of a trace
 unfoldable pub ends : Trace → Ending
 ends done = well
 ends (refuse r) = refused r

@@ -17,6 +17,7 @@ pairs (r ∷ rs) = r .place ∷ tagOf (r .role) (r .kind) ∷ pairs rs
 unfoldable pub overlay : List ℕ → List ℕ → List ℕ
 overlay xs out = xs ++ drop (length xs) out
 
+-- the records number `skip` and on, as many as there is room for, and the rest of out as it was
 unfoldable pub window : ℕ → List Record → List ℕ → List ℕ
 window skip rs out = overlay (pairs (take (length out / 2) (drop skip rs))) out
 

@@ -22,6 +22,7 @@ pub data Ran (S : Type 0) : Type 0 where
 abbrev pub Visitor : Type 0 → Type 0
 Visitor S = S → Role → ℕ → ℕ → S
 
+-- on with the state, unless reading was refused
 unfoldable pub bind : {S : Type 0} → Ran S → (S → Ran S) → Ran S
 bind (ended s) k = k s
 bind (broke s r) k = broke s r
@@ -32,10 +33,12 @@ run v b s done = ended s
 run v b s (refuse r) = broke s r
 run v b s (emit role kind p bs t) = run v b (v s role kind (b + p)) t
 
+-- the buffer, and how many records were met
 pub record St : Type 0 where
   pub out : List ℕ
   pub n : ℕ
 
+-- the two together
 abbrev pub st : List ℕ → ℕ → St
 st o n = record { out = o; n = n }
 
@@ -49,13 +52,16 @@ slotted skip n place tag out =
     pick (ltb n skip) out
     (pick (ltb (n - skip) (length out / 2)) (set (set out (2 * (n - skip)) place) (2 * (n - skip) + 1) tag) out)
 
+-- the visitor that writes a window
 unfoldable pub noting : ℕ → Visitor St
 noting skip s role kind place = st (slotted skip (s .n) place (tagOf role kind) (s .out)) (next (s .n))
 
+-- the answer
 unfoldable pub walkOf : Ran St → Walk
 walkOf (ended s) = walk.Done (s .n)
 walkOf (broke s r) = walk.Refused r
 
+-- the buffer at the end
 unfoldable pub ranOut : Ran St → List ℕ
 ranOut (ended s) = s .out
 ranOut (broke s r) = s .out

@@ -10,6 +10,7 @@ use Rattle.rules.proofs.Least.{Least, least}
 use Rattle.rules.proofs.Placed.{ordered}
 use Rattle.rules.proofs.Order.{order-law}
 
+-- DEMAND 3, of stories
 pub record Demand3 : Type 0 where
   -- accepted exactly when no breach stands; else a breach that stands, and every other that stands is later
   pub verdicts : (s : Story) → Placed s → Least s

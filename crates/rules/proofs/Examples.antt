@@ -2,15 +2,15 @@
 use mathlib.Core.Path.{_≡_, refl, sym, subst}
 use mathlib.Core.Bool.{Bool, true, false}
 use mathlib.Core.List.{List, [], _∷_, map, List·Memᴰ·not-nil, List·Memᴰ·eq-of-singleton}
-use mathlib.Core.Option.{Option, none, some}
+use mathlib.Core.Option.{none, some}
 use Prim.Native.Nat.{ℕ, _<_}
 use lib.Dec.{lit<}
 use Rattle.names.specs.Words.{Bytes}
 use Rattle.names.specs.Reserved.{END, arrow, builtins}
-use Rattle.story.specs.Story.{Name, Kind, temp, divert, thread, variable, choice, gather, What, Item, Stitch, Flow, Story}
+use Rattle.story.specs.Story.{Name, Kind, temp, divert, thread, variable, choice, gather, Item, Stitch, Flow, Story}
 use Rattle.symbols.specs.Index.{labelled, stitchEntries, flowEntries, entries}
 use Rattle.rules.specs.Rules.{broken, known, here, number}
-use Rattle.rules.specs.Steps.{over, stitchRuns, flowRuns, runs, Breach, breaches, verdict}
+use Rattle.rules.specs.Steps.{over, stitchRuns, flowRuns, runs, breaches, verdict}
 use Rattle.rules.specs.Placed.{Placed}
 
 name : ℕ → Bytes → Name
@@ -39,6 +39,7 @@ story globals root flows = record { globals = globals; externals = []; root = ro
 rule : Story → ℕ
 rule s = elim (verdict s) [ none ↦ 0 | some b ↦ number (b .rule) ]
 
+-- the names that occur
 abbrev a : Bytes
 a = 97 ∷ []
 
@@ -57,6 +58,7 @@ t = 116 ∷ []
 abbrev x : Bytes
 x = 120 ∷ []
 
+-- a story, and the rule that the verdict names: 0 where it is accepted
 record Row : Type 0 where
   given : Story
   expected : ℕ

@@ -21,6 +21,7 @@ use Rattle.rules.specs.Reader.{Readable, storyAt, storyOf}
 file : ℕ → List ℕ
 file kind = kind ∷ 2 ∷ 0 ∷ 0 ∷ 0 ∷ 1 ∷ 120 ∷ 0 ∷ 0 ∷ 0 ∷ 0 ∷ 0 ∷ 0 ∷ 0 ∷ 0 ∷ 0 ∷ 0 ∷ 0 ∷ 0 ∷ 7 ∷ 0 ∷ 0 ∷ 0 ∷ 73 ∷ 75 ∷ 1 ∷ 0 ∷ []
 
+-- the rule that a verdict names, 0 where accepted
 abbrev ruleOf : Option Breach → ℕ
 ruleOf none = 0
 ruleOf (some b) = number (b .rule)
@@ -30,6 +31,7 @@ record Judged (file : List ℕ) (rule : ℕ) : Type 0 where
   readable : Readable file
   judged : ruleOf (verdict (storyOf file)) ≡ rule
 
+-- the example with kind 3, and with kind 7 in its place
 record Examples : Type 0 where
   target-missing : Judged (file 3) 2
   onward-unchecked : Judged (file 7) 0

@@ -69,6 +69,7 @@ paired-map Q R f h (x ∷ xs) ys w = (
 
 -- 2. Alike, of stories without places
 
+-- flows alike in all but the order of their stitches
 record AlikeOwn (f g : UnplacedFlow) : Type 0 where
   function : f .function ≡ g .function
   own : f .own ≡ g .own

@@ -1,18 +1,16 @@
 -- Demand 3's claim on the verdict: accepted exactly when no breach stands, else the first breach that stands: `least`.
 -- What stands is listed, and listed one time: `listed`, `once`. Assumes nothing.
 use mathlib.Core.Path.{_≡_, refl, sym, _∙_, ap, subst, subst₂}
-use mathlib.Core.Bool.{Bool, true, false}
-use mathlib.Core.List.{List, [], _∷_, _++_, List·Memᴰ, List·Memᴰ·head, List·Memᴰ·tail, List·Memᴰ·not-nil, List·Memᴰ·cases-cons, List·Memᴰ·eq-of-singleton, Memᴰ·cast, append-assoc, append-nil}
+use mathlib.Core.List.{List, [], _∷_, _++_, List·Memᴰ, List·Memᴰ·head, List·Memᴰ·tail, List·Memᴰ·not-nil, List·Memᴰ·cases-cons, Memᴰ·cast, append-assoc, append-nil}
 use mathlib.Core.Logic.{_⊎_, inl, inr, ⊎-elim, _↔_}
-use mathlib.Core.Option.{Option, none, some, Option·none-ne-some, Option·some-ne-none, Option·some-injective}
-use Prim.Native.Nat.{ℕ, zero, suc, _≤_, _<_}
+use mathlib.Core.Option.{none, some, Option·none-ne-some, Option·some-ne-none, Option·some-injective}
+use Prim.Native.Nat.{_<_}
 use native.Mathlib.Omega.{arith}
-use lib.Dec.{T, ltb, lit<}
-use Rattle.names.specs.Words.{only, each, _∈_, Sorted}
+use Rattle.names.specs.Words.{only, _∈_, Sorted}
 use Rattle.story.specs.Story.{What, Item, Story, whats}
 use Rattle.rules.specs.declared.Rule.{Rule}
 use Rattle.rules.specs.Rules.{number}
-use Rattle.rules.specs.Steps.{Visit, visits, bracket, namesOf, flowNamed, Run, run, Numbered, numbered, Breach, breach, breaks, inVisit, inRun, runs, breaches, first, verdict, Later}
+use Rattle.rules.specs.Steps.{Visit, visits, bracket, namesOf, flowNamed, Run, Numbered, numbered, Breach, breach, breaks, inVisit, inRun, runs, breaches, first, verdict, Later}
 use Rattle.rules.specs.Meaning.{Broken, NamesAre, Stands}
 use Rattle.rules.specs.Placed.{Rising}
 use Rattle.rules.proofs.Means.{broken-means}

@@ -1,3 +1,4 @@
+-- The laws on rules, steps and verdict, and the claim of demand 3.
 pub mod Paired
 pub mod Numbered
 pub mod Means
@@ -10,8 +11,6 @@ pub mod Shuffle
 pub mod Spellings
 pub mod Order
 pub mod Demand
-pub mod First
-pub mod Plain
 pub mod Sorts
 pub mod Files
 pub mod Reader

@@ -8,13 +8,14 @@ use lib.Dec.{T, eqb, eqb→eq, eqb-refl}
 use Rattle.names.specs.Words.{Bytes, _∈_}
 use Rattle.names.specs.Reserved.{END, DONE, back, builtins}
 use Rattle.names.proofs.Means.{Means, itself, never, both, three, four, either, either3, fails, some-of, some-both, equal, member, end, pass}
-use Rattle.story.specs.Story.{Kind, temp, divert, tunnel, thread, call, variable, argument, choice, gather, parameter, stitchName, flowStart, code, What, is, Item, Stitch, Flow, Story, words, whats}
+use Rattle.story.specs.Story.{Kind, temp, divert, tunnel, thread, call, variable, argument, choice, gather, parameter, stitchName, flowStart, code, What, is, Item, Flow, Story, words, whats}
+use Rattle.bodies.specs.Search.{labelIn, tempIn}
 use Rattle.symbols.specs.Index.{spellings}
 use Rattle.symbols.specs.Spelled.{LabelIn, Spelled}
 use Rattle.symbols.proofs.Spelled.{spelled}
 use Rattle.rules.specs.declared.Rule.{Rule}
 use Rattle.rules.specs.declared.Rule.the-variants.{FunctionDivertedTo, TargetNotFound, FlowCalled, NameIsFunction, NameIsGlobal, TempIsParameter, TempIsLabel, ParameterUnmarked, ParameterAlreadyMarked, GatherRepeated, ChoiceUndiverted, FunctionWithStitches, FunctionWithChoice, FunctionWithDivert, VariableForbidden}
-use Rattle.rules.specs.Rules.{target, callPasses, broken, valid, ending, known, labelIn, tempIn, knotLabel, Scope, root, knot, stitch, here}
+use Rattle.rules.specs.Rules.{target, callPasses, broken, valid, ending, known, knotLabel, Scope, root, knot, stitch, here}
 use Rattle.rules.specs.Meaning.{Is, Target, Function, FlowName, CallPasses, Found, TempIn, KnotLabel, Param, Mark, Label, Forbidden, Stitched, Broken}
 
 through : {a : Bool} {P Q : Type 0} → Means a P → P ↔ Q → Means a Q

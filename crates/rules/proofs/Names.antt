@@ -4,10 +4,11 @@ use mathlib.Core.Logic.{_⊎_, inl, inr, ⊎-elim}
 use Prim.Native.Nat.{ℕ, _<_}
 use native.Mathlib.Omega.{arith}
 use lib.Dec.{lit<}
+use Rattle.symbols.specs.Numbers.{absent}
 use Rattle.rules.specs.declared.Rule.{Rule}
 use Rattle.rules.specs.declared.Rule.the-variants.{FunctionDivertedTo, TargetNotFound, FlowCalled, NameIsFunction, NameIsGlobal, TempIsParameter, TempIsLabel, ParameterUnmarked, ParameterAlreadyMarked, GatherRepeated, ChoiceUndiverted, FunctionWithStitches, FunctionWithChoice, FunctionWithDivert, VariableForbidden}
 use Rattle.rules.specs.Rules.{number}
-use Rattle.rules.specs.Steps.{absent, namesOf}
+use Rattle.rules.specs.Steps.{namesOf}
 use Rattle.rules.specs.Meaning.{NamesAre}
 
 module _ {rule function own : ℕ} where

@@ -1,15 +1,16 @@
 -- Demand 3's order law: of two stories alike in all but order both are accepted or both are found in breach: `order-law`.
 -- Every test on a story is an `any` over its lists, so alike stories have the same tests. Assumes nothing.
-use mathlib.Core.Path.{_≡_, refl, sym, _∙_, ap, ap₂}
+use mathlib.Core.Path.{_≡_, refl, sym, _∙_, ap₂}
 use mathlib.Core.Bool.{Bool, true, false, _||_, and-true, true≢false}
 use mathlib.Core.List.{List, [], _∷_, _++_, map}
 use mathlib.Core.Logic.{_↔_}
 use mathlib.Core.Option.{none, Option·some-ne-none}
 use Rattle.names.specs.Words.{Bytes, same, any, ends}
 use Rattle.story.specs.Story.{Name, Kind, parameter, stitchName, flowStart, What, Item, Stitch, Flow, Story, words, whats}
-use Rattle.rules.specs.Rules.{Known, Here, known, labelIn, tempIn, knotLabel, Scope, root, knot, stitch, here}
+use Rattle.bodies.specs.Search.{labelIn, tempIn}
+use Rattle.rules.specs.Rules.{Known, Here, known, knotLabel, Scope, root, knot, stitch, here}
 use Rattle.rules.specs.Steps.{Visit, visits, Step, s5, s6, s12, s19, s20, bracket, rootSteps, flowSteps, stitchSteps, Run, over, paramItems, purityItems, stitchRuns, flowRuns, runs, Breach, breaks, breaches, first, verdict}
-use Rattle.rules.specs.Alike.{Paired, AlikeStitch, AlikeFlow, Alike, Shuffled, AlikeShuffled}
+use Rattle.rules.specs.Alike.{AlikeStitch, AlikeFlow, Alike, Shuffled, AlikeShuffled}
 use Rattle.names.proofs.Any.{any-append, any-only, any-each, any-same}
 use Rattle.rules.proofs.Paired.{paired-eq, paired-weaken, any-numbered, any-paired, any-often}
 use Rattle.rules.proofs.Shuffle.{stepFinds, step-shuffled}
@@ -36,7 +37,7 @@ alike-known s t h = same-known (known s) (known t)
     (λ n. any-often (same n) (words (s .externals)) (words (t .externals)) (h .externals))
     (λ n. rw (alike-spellings (same n) s t h, alike-spellings (ends (46 ∷ n)) s t h))
 
-same-here : (h k : Here) → ((n : Bytes) → h .param n ≡ k .param n) → ((n : Bytes) → h .mark n ≡ k .mark n)
+pub same-here : (h k : Here) → ((n : Bytes) → h .param n ≡ k .param n) → ((n : Bytes) → h .mark n ≡ k .mark n)
     → ((n : Bytes) → h .label n ≡ k .label n) → ((n : Bytes) → h .forbidden n ≡ k .forbidden n) → h .stitched ≡ k .stitched → h ≡ k
 same-here h k a b c d e = λ i. record {
   param = λ n. a n i;

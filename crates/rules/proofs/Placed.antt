@@ -1,5 +1,5 @@
 -- The places that a step visits rise, from what the reader supplies. Assumes nothing.
-use mathlib.Core.Path.{_≡_, subst}
+use mathlib.Core.Path.{subst}
 use mathlib.Core.List.{List, [], _∷_, List·Memᴰ·not-nil, Memᴰ·of-map}
 use Prim.Native.Nat.{_<_}
 use Rattle.names.specs.Words.{_∈_, Sorted}

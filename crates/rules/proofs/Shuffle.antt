@@ -1,20 +1,20 @@
 -- Whether a step finds a breach does not depend on the order of a body's records: `step-shuffled`. Only rule 10 looks at what stands
 -- before, and whether some gather label stands twice does not depend on the order either. Assumes nothing.
 use mathlib.Core.Path.{_≡_, refl, sym, _∙_, ap, ap₂, subst}
-use mathlib.Core.Bool.{Bool, true, false, not, _&&_, _||_, or-assoc, or-false, or-true, or-self, and-false}
-use mathlib.Core.List.{List, [], _∷_, _++_, List·Memᴰ, append-nil}
-use mathlib.Core.Logic.{_⊎_, inl, inr, ⊎-elim}
-use Prim.Native.Nat.{ℕ, zero, suc, _+_, _≤_, _<_}
+use mathlib.Core.Bool.{Bool, true, false, _&&_, _||_, or-false, or-true, or-self, and-false}
+use mathlib.Core.List.{List, [], _∷_, _++_, append-nil}
+use mathlib.Core.Logic.{⊎-elim}
+use Prim.Native.Nat.{ℕ, zero, suc, _+_, _<_}
 use native.Mathlib.Omega.{arith}
 use lib.Dec.{T}
 use Rattle.names.specs.Words.{Bytes, same, any}
-use Rattle.story.specs.Story.{Kind, gather, What, is}
+use Rattle.story.specs.Story.{gather, What, is}
 use Rattle.rules.specs.declared.Rule.{Rule}
 use Rattle.rules.specs.declared.Rule.the-variants.{FunctionDivertedTo, TargetNotFound, FlowCalled, NameIsFunction, NameIsGlobal, TempIsParameter, TempIsLabel, ParameterUnmarked, ParameterAlreadyMarked, GatherRepeated, ChoiceUndiverted, FunctionWithStitches, FunctionWithChoice, FunctionWithDivert, VariableForbidden}
 use Rattle.rules.specs.Rules.{Known, Here, broken}
 use Rattle.rules.specs.Steps.{Step, bracket}
-use Rattle.rules.specs.Alike.{more, Paired, Shuffled}
-use Rattle.names.proofs.Any.{any-same, any-in, any-of}
+use Rattle.rules.specs.Alike.{more, Shuffled}
+use Rattle.names.proofs.Any.{any-same}
 use Rattle.names.proofs.Bools.{bool-ext, and-left, and-right, and-both, or-cases, or-left, or-right}
 use Rattle.names.proofs.Words.{same-eq, same-refl}
 use Rattle.rules.proofs.Paired.{any-paired}

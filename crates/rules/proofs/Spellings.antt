@@ -5,8 +5,8 @@ use mathlib.Core.Bool.{Bool, _&&_, _||_}
 use mathlib.Core.List.{List, [], _∷_, _++_, map}
 use mathlib.Core.Option.{Option}
 use Rattle.names.specs.Words.{Bytes, any, only}
-use Rattle.story.specs.Story.{Name, What, Item, Stitch, Flow, Story, words, whats}
-use Rattle.symbols.specs.Index.{Entry, dotted, spelling, alone, nameOf, labelled, prefix, stitchEntries, flowEntries, entries, spellings}
+use Rattle.story.specs.Story.{Name, What, Item, Stitch, Flow, Story, words, whats, ownName}
+use Rattle.symbols.specs.Index.{Entry, dotted, spelling, alone, labelled, prefix, stitchEntries, flowEntries, entries, spellings}
 use Rattle.rules.specs.Alike.{AlikeStitch, AlikeFlow, Shuffled, AlikeShuffled}
 use Rattle.names.proofs.Any.{any-append, any-only, any-each, any-map}
 use Rattle.rules.proofs.Paired.{any-paired, any-often}
@@ -48,8 +48,8 @@ module _ (p : Bytes → Bool) where
   unfolding labelled label-spelt
   labelled-spelt f t [] = refl
   labelled-spelt f t (i ∷ is) =
-      any-append spelt (only (i .what .labels) (record { flow = f; stitch = t; own = nameOf i })) (labelled f t is)
-      ∙ ap₂ _||_ (any-only spelt (i .what .labels) (record { flow = f; stitch = t; own = nameOf i })) (labelled-spelt f t is)
+      any-append spelt (only (i .what .labels) (record { flow = f; stitch = t; own = ownName i })) (labelled f t is)
+      ∙ ap₂ _||_ (any-only spelt (i .what .labels) (record { flow = f; stitch = t; own = ownName i })) (labelled-spelt f t is)
 
   stitchSpelt : Bytes → Bytes → List Bytes → List What → Bool
   stitchSpelt f t params body = (p (f ++ (46 ∷ t)) || any p params) || any (label-spelt (before-both f t)) body

@@ -45,26 +45,31 @@ pub record AlikeFiles (a b : FileBytes) : Type 0 where
 
 -- 2. A STORY WITHOUT PLACES
 
+-- a stitch: name, parameters, divert parameters, items
 pub record UnplacedStitch : Type 0 where
   pub name : Bytes
   pub params : List Bytes
   pub marks : List Bytes
   pub body : List What
 
+-- a flow: its flag, what it has itself, and its stitches
 pub record UnplacedFlow : Type 0 where
   pub function : Bool
   pub own : UnplacedStitch
   pub stitches : List UnplacedStitch
 
+-- a story
 pub record UnplacedStory : Type 0 where
   pub globals : List Bytes
   pub externals : List Bytes
   pub root : List What
   pub flows : List UnplacedFlow
 
+-- a stitch without its places
 unfoldable pub unplacedStitch : Stitch → UnplacedStitch
 unplacedStitch t = record { name = t .name .bytes; params = words (t .params); marks = words (t .marks); body = whats (t .body) }
 
+-- a flow without its places
 unfoldable pub unplacedFlow : Flow → UnplacedFlow
 unplacedFlow f = record {
   function = f .function;
@@ -72,6 +77,7 @@ unplacedFlow f = record {
   stitches = map unplacedStitch (f .stitches);
 }
 
+-- a story without its places
 unfoldable pub unplaced : Story → UnplacedStory
 unplaced s = record {
   globals = words (s .globals);
@@ -90,6 +96,7 @@ pub record Reading : Type 0 where
   pub nodes : List ℕ → List What
   pub stitch : List ℕ → UnplacedStitch
 
+-- what the parts of a flow say
 unfoldable pub flowRead : Reading → FlowBytes → UnplacedFlow
 flowRead r p = record {
   function = r .flag (p .flag);
@@ -97,6 +104,7 @@ flowRead r p = record {
   stitches = map (r .stitch) (p .stitches);
 }
 
+-- what the parts of a file say
 unfoldable pub fileRead : Reading → FileBytes → UnplacedStory
 fileRead r p = record {
   globals = p .globals;

@@ -1,3 +1,4 @@
+-- The definitions on rules, steps and verdict.
 pub mod Rules
 pub mod Steps
 pub mod Meaning

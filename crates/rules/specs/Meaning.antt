@@ -9,13 +9,15 @@ use Rattle.names.specs.Words.{Bytes, each, _∈_}
 use Rattle.names.specs.Reserved.{END, DONE, arrow, back, builtins}
 use Rattle.story.specs.Story.{Name, Kind, temp, divert, tunnel, thread, call, variable, argument, choice, gather, parameter, stitchName, flowStart, code, What, Item, Stitch, Flow, Story, words, whats}
 use Rattle.symbols.specs.Spelled.{LabelIn, Spelled}
+use Rattle.symbols.specs.Numbers.{absent}
 use Rattle.rules.specs.declared.Rule.{Rule}
 use Rattle.rules.specs.declared.Rule.the-variants.{FunctionDivertedTo, TargetNotFound, FlowCalled, NameIsFunction, NameIsGlobal, TempIsParameter, TempIsLabel, ParameterUnmarked, ParameterAlreadyMarked, GatherRepeated, ChoiceUndiverted, FunctionWithStitches, FunctionWithChoice, FunctionWithDivert, VariableForbidden}
 use Rattle.rules.specs.Rules.{number, Scope, root, knot, stitch}
-use Rattle.rules.specs.Steps.{Step, s1, s2, s3, s4, s5, s6, s7, s8, s9, s10, s11, s12, s13, s14, s15, s16, s17, s18, s19, s20, Run, run, nameItem, Numbered, numbered, runs, absent, flowNamed, Breach}
+use Rattle.rules.specs.Steps.{Step, s1, s2, s3, s4, s5, s6, s7, s8, s9, s10, s11, s12, s13, s14, s15, s16, s17, s18, s19, s20, Run, run, nameItem, Numbered, numbered, runs, flowNamed, Breach}
 
 -- THE RULES AS STATEMENTS
 
+-- it is of the kind
 abbrev pub Is : Kind → What → Type 0
 Is k w = code k ≡ code (w .kind)
 
@@ -27,9 +29,11 @@ Target w = Is divert w ⊎ Is tunnel w ⊎ Is thread w
 abbrev pub Passes : Bytes → Type 0
 Passes t = ([] ≡ t) ⊎ (arrow ≡ t) ⊎ ((r : Bytes) × (t ≡ 36 ∷ r))
 
+-- the name of a function
 abbrev pub Function : Story → Bytes → Type 0
 Function s n = (f : Flow) × f ∈ s .flows × T (f .function) × (n ≡ f .name .bytes)
 
+-- the name of a flow
 abbrev pub FlowName : Story → Bytes → Type 0
 FlowName s n = (f : Flow) × f ∈ s .flows × (n ≡ f .name .bytes)
 
@@ -41,6 +45,7 @@ CallPasses s n = Function s n ⊎ n ∈ words (s .externals) ⊎ n ∈ builtins
 abbrev pub Found : Story → Bytes → Type 0
 Found s n = (n ∈ (END ∷ DONE ∷ back ∷ []) ⊎ Spelled s n) ⊎ ((w : Bytes) × Spelled s w × ((p : Bytes) × (w ≡ p ++ (46 ∷ n))))
 
+-- a TempSet name in the body
 abbrev pub TempIn : List Item → Bytes → Type 0
 TempIn body n = (w : What) × w ∈ whats body × Is temp w × (n ≡ w .name)
 
@@ -48,31 +53,37 @@ TempIn body n = (w : What) × w ∈ whats body × Is temp w × (n ≡ w .name)
 abbrev pub KnotLabel : Flow → Bytes → Type 0
 KnotLabel f n = LabelIn (f .body) n ⊎ ((t : Stitch) × t ∈ f .stitches × LabelIn (t .body) n)
 
+-- that flow's or stitch's own parameters
 abbrev pub Param : Scope → Bytes → Type 0
 Param root n = ⊥
 Param (knot f) n = n ∈ words (f .params)
 Param (stitch f t) n = n ∈ words (t .params)
 
+-- that flow's or stitch's own marks
 abbrev pub Mark : Scope → Bytes → Type 0
 Mark root n = ⊥
 Mark (knot f) n = n ∈ words (f .marks)
 Mark (stitch f t) n = n ∈ words (t .marks)
 
+-- labels for temps: the root's; or those of the knot and all its stitches
 abbrev pub Label : Story → Scope → Bytes → Type 0
 Label s root n = LabelIn (s .root) n
 Label s (knot f) n = KnotLabel f n
 Label s (stitch f t) n = KnotLabel f n
 
+-- forbidden in a stitch: the knot's parameters and temps, less the stitch's own
 abbrev pub Forbidden : Scope → Bytes → Type 0
 Forbidden root n = ⊥
 Forbidden (knot f) n = ⊥
 Forbidden (stitch f t) n = (n ∈ words (f .params) ⊎ TempIn (f .body) n) × ((n ∈ words (t .params) ⊎ TempIn (t .body) n) → ⊥)
 
+-- the flow has stitches
 abbrev pub Stitched : Scope → Type 0
 Stitched root = ⊥
 Stitched (knot f) = (t : Stitch) × t ∈ f .stitches
 Stitched (stitch f t) = ⊥
 
+-- THE RULES, 1 to 15: broken by w, where `before` are the items earlier in the same body
 unfoldable pub Broken : Story → Scope → List What → Rule → What → Type 0
 Broken s sc before FunctionDivertedTo w = Target w × (Passes (w .name) → ⊥) × Function s (w .name)
 Broken s sc before TargetNotFound w = Target w × (Passes (w .name) → ⊥) × (Function s (w .name) → ⊥) × (Found s (w .name) → ⊥)
@@ -125,13 +136,15 @@ pub data Ran (s : Story) : Run → Type 0 where
   ran-name : {f : Flow} {t : Stitch} {st : Step} → f ∈ s .flows → t ∈ f .stitches → st ∈ (s12 ∷ []) → Ran s (run (stitch f t) (nameItem stitchName (t .name .at) (t .name) ∷ []) st)
   ran-stitch : {f : Flow} {t : Stitch} {st : Step} → f ∈ s .flows → t ∈ f .stitches → st ∈ (s13 ∷ s14 ∷ s15 ∷ s16 ∷ s17 ∷ s18 ∷ []) → Ran s (run (stitch f t) (t .body) st)
 
--- the numbers of the steps as run: the root's 1 to 4; a flow's 5 to 11, 12 to 18 for each stitch, its 19, then the next flow; the root's 20
+-- the numbers of the steps as run for a stitch: 12 to 18
 abbrev pub stitchNumbers : Stitch → List ℕ
 stitchNumbers t = 12 ∷ 13 ∷ 14 ∷ 15 ∷ 16 ∷ 17 ∷ 18 ∷ []
 
+-- for a flow: 5 to 11, 12 to 18 for each stitch, its 19
 abbrev pub flowNumbers : Flow → List ℕ
 flowNumbers f = (5 ∷ 6 ∷ 7 ∷ 8 ∷ 9 ∷ 10 ∷ 11 ∷ []) ++ each stitchNumbers (f .stitches) ++ (19 ∷ [])
 
+-- for a story: the root's 1 to 4, those of each flow, the root's 20
 abbrev pub runNumbers : Story → List ℕ
 runNumbers s = (1 ∷ 2 ∷ 3 ∷ 4 ∷ []) ++ each flowNumbers (s .flows) ++ (20 ∷ [])
 

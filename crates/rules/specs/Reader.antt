@@ -23,6 +23,7 @@ pub record Readable (file : List ℕ) : Type 0 where
   pub sections : Sections
   pub told : readOf file ≡ opened.At sections
 
+-- the story by how reading ended
 unfoldable pub storyAt : Opened → List ℕ → Story
 storyAt (opened.At c) file = storyIn c file
 storyAt (opened.Refused r) file = record { globals = []; externals = []; root = []; flows = [] }
@@ -67,6 +68,7 @@ partsIn c file = record {
   flows = piecesBy flowBytes (part (c .flows) (c .end) file);
 }
 
+-- the parts by how reading ended
 unfoldable pub partsAt : Opened → List ℕ → FileBytes
 partsAt (opened.At c) file = partsIn c file
 partsAt (opened.Refused r) file = record { globals = []; externals = []; root = []; flows = [] }

@@ -6,7 +6,9 @@ use Prim.Native.Nat.{ℕ}
 use Rattle.names.specs.Words.{Bytes, same, any, one-of, ends}
 use Rattle.names.specs.Reserved.{END, DONE, back, builtins}
 use Rattle.names.specs.Targets.{passes}
-use Rattle.story.specs.Story.{temp, divert, tunnel, thread, call, variable, argument, choice, gather, parameter, stitchName, flowStart, What, is, Item, Stitch, Flow, Story, words, whats}
+use Rattle.story.specs.Story.{temp, divert, tunnel, thread, call, variable, argument, choice, gather, parameter, stitchName, flowStart, What, is, Stitch, Flow, Story, words}
+use Rattle.searches.specs.Called.{isFlow, isFunction}
+use Rattle.bodies.specs.Search.{labelIn, tempIn}
 use Rattle.symbols.specs.Index.{spellings}
 use Rattle.rules.specs.declared.Rule.{Rule}
 use Rattle.rules.specs.declared.Rule.the-variants.{FunctionDivertedTo, TargetNotFound, FlowCalled, NameIsFunction, NameIsGlobal, TempIsParameter, TempIsLabel, ParameterUnmarked, ParameterAlreadyMarked, GatherRepeated, ChoiceUndiverted, FunctionWithStitches, FunctionWithChoice, FunctionWithDivert, VariableForbidden}
@@ -89,10 +91,11 @@ valid s n = one-of n (END ∷ DONE ∷ back ∷ []) || one-of n (spellings s)
 abbrev pub ending : Story → Bytes → Bool
 ending s n = any (ends (46 ∷ n)) (spellings s)
 
+-- the names of a story
 unfoldable pub known : Story → Known
 known s = record {
-  function = λ n. any (λ (f : Flow). f .function && same n (f .name .bytes)) (s .flows);
-  flow = λ n. any (λ (f : Flow). same n (f .name .bytes)) (s .flows);
+  function = λ n. any (isFunction n) (s .flows);
+  flow = λ n. any (isFlow n) (s .flows);
   global = λ n. one-of n (words (s .globals));
   external = λ n. one-of n (words (s .externals));
   target = λ n. valid s n || ending s n;
@@ -115,14 +118,6 @@ abbrev pub mark : Scope → Bytes → Bool
 mark root n = false
 mark (knot f) n = one-of n (words (f .marks))
 mark (stitch f t) n = one-of n (words (t .marks))
-
--- a label of the body
-abbrev pub labelIn : List Item → Bytes → Bool
-labelIn body n = any (λ (w : What). w .labels && same n (w .name)) (whats body)
-
--- a TempSet name in the body
-abbrev pub tempIn : List Item → Bytes → Bool
-tempIn body n = any (λ (w : What). is temp w && same n (w .name)) (whats body)
 
 -- the labels of the knot and all its stitches
 abbrev pub knotLabel : Flow → Bytes → Bool
@@ -148,6 +143,7 @@ stitched root = false
 stitched (knot f) = any (λ (t : Stitch). true) (f .stitches)
 stitched (stitch f t) = false
 
+-- the names where a step runs
 unfoldable pub here : Story → Scope → Here
 here s scope = record {
   param = param scope;

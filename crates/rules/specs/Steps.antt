@@ -7,13 +7,16 @@ use mathlib.Core.Option.{Option, none, some}
 use Prim.Native.Nat.{ℕ, suc, _<_}
 use Rattle.names.specs.Words.{only, each}
 use Rattle.story.specs.Story.{Name, Kind, parameter, stitchName, flowStart, What, Item, Stitch, Flow, Story}
+use Rattle.symbols.specs.Numbers.{absent}
 use Rattle.rules.specs.declared.Rule.{Rule}
 use Rattle.rules.specs.declared.Rule.the-variants.{FunctionDivertedTo, TargetNotFound, FlowCalled, NameIsFunction, NameIsGlobal, TempIsParameter, TempIsLabel, ParameterUnmarked, ParameterAlreadyMarked, GatherRepeated, ChoiceUndiverted, FunctionWithStitches, FunctionWithChoice, FunctionWithDivert, VariableForbidden}
 use Rattle.rules.specs.Rules.{number, broken, known, Scope, root, knot, stitch, here}
 
+-- the twenty steps
 pub data Step : Type 0 where
   s1 s2 s3 s4 s5 s6 s7 s8 s9 s10 s11 s12 s13 s14 s15 s16 s17 s18 s19 s20 : Step
 
+-- the number of each step
 abbrev pub stepNumber : Step → ℕ
 stepNumber s1 = 1
 stepNumber s2 = 2
@@ -36,22 +39,27 @@ stepNumber s18 = 18
 stepNumber s19 = 19
 stepNumber s20 = 20
 
--- the rules that several steps have
+-- the rules on targets
 abbrev pub targets : List Rule
 targets = FunctionDivertedTo ∷ TargetNotFound ∷ []
 
+-- the rule on calls
 abbrev pub calls : List Rule
 calls = FlowCalled ∷ []
 
+-- the rule on choices
 abbrev pub choices : List Rule
 choices = ChoiceUndiverted ∷ []
 
+-- the rules on temps of a flow or a stitch
 abbrev pub temps : List Rule
 temps = NameIsFunction ∷ TempIsParameter ∷ TempIsLabel ∷ []
 
+-- the rules on variable diverts
 abbrev pub variableDiverts : List Rule
 variableDiverts = ParameterUnmarked ∷ ParameterAlreadyMarked ∷ []
 
+-- the rule on gathers
 abbrev pub gathers : List Rule
 gathers = GatherRepeated ∷ []
 
@@ -88,6 +96,7 @@ pub record Run : Type 0 where
   pub scope : Scope
   pub items : List Item
 
+-- a step over the items
 abbrev pub run : Scope → List Item → Step → Run
 run scope items step = record { step = step; scope = scope; items = items }
 
@@ -107,6 +116,7 @@ nameItem k place n = record {
 abbrev pub paramItems : List Name → List Item
 paramItems l = map (λ (n : Name). nameItem parameter (n .at) n) l
 
+-- the name of a stitch
 abbrev pub stitchItems : Stitch → List Item
 stitchItems t = nameItem stitchName (t .name .at) (t .name) ∷ []
 
@@ -115,18 +125,23 @@ abbrev pub purityItems : Bool → Flow → List Item
 purityItems true f = nameItem flowStart (f .at) (f .name) ∷ f .body
 purityItems false f = []
 
+-- steps 1 to 4, over the root
 abbrev pub rootSteps : List Step
 rootSteps = s1 ∷ s2 ∷ s3 ∷ s4 ∷ []
 
+-- steps 7 to 11, over a flow
 abbrev pub flowSteps : List Step
 flowSteps = s7 ∷ s8 ∷ s9 ∷ s10 ∷ s11 ∷ []
 
+-- steps 13 to 18, over a stitch
 abbrev pub stitchSteps : List Step
 stitchSteps = s13 ∷ s14 ∷ s15 ∷ s16 ∷ s17 ∷ s18 ∷ []
 
+-- the steps of a stitch
 unfoldable pub stitchRuns : Flow → Stitch → List Run
 stitchRuns f t = over (stitch f t) (stitchItems t) (s12 ∷ []) ++ over (stitch f t) (t .body) stitchSteps
 
+-- the steps of a flow, those of its stitches among them
 unfoldable pub flowRuns : Flow → List Run
 flowRuns f =
     over (knot f) (purityItems (f .function) f) (s5 ∷ [])
@@ -144,6 +159,7 @@ pub record Numbered (A : Type 0) : Type 0 where
   pub no : ℕ
   pub it : A
 
+-- the list, numbered from n on
 abbrev pub numbered : {A : Type 0} → ℕ → List A → List (Numbered A)
 numbered n [] = []
 numbered n (x ∷ xs) = record { no = n; it = x } ∷ numbered (suc n) xs
@@ -154,10 +170,6 @@ pub record Breach : Type 0 where
   pub rule : Rule
   pub place : ℕ
   pub names : ℕ × ℕ
-
--- the number where there is no name
-abbrev pub absent : ℕ
-absent = 4294967295
 
 -- the names in the text's order: the flow's name, and the name of what is visited
 abbrev pub namesOf : Rule → ℕ → ℕ → ℕ × ℕ
@@ -188,10 +200,12 @@ pub record Visit : Type 0 where
   pub item : Item
   pub before : List What
 
+-- the items in order
 abbrev pub visits : List What → List Item → List Visit
 visits before [] = []
 visits before (i ∷ is) = record { item = i; before = before } ∷ visits (before ++ (i .what ∷ [])) is
 
+-- the breach of a rule at what a step visits
 abbrev pub breach : Numbered Run → Visit → Rule → Breach
 breach u v r = record {
   instance = u .no;
@@ -204,9 +218,11 @@ breach u v r = record {
 abbrev pub breaks : Story → Run → Visit → Rule → Bool
 breaks s u v r = broken (known s) (here s (u .scope)) (v .before) r (v .item .what)
 
+-- the breaches at what a step visits
 abbrev pub inVisit : Story → Numbered Run → Visit → List Breach
 inVisit s u v = each (λ (r : Rule). only (breaks s (u .it) v r) (breach u v r)) (bracket (u .it .step))
 
+-- the breaches in a step as run
 abbrev pub inRun : Story → Numbered Run → List Breach
 inRun s u = each (inVisit s u) (visits [] (u .it .items))
 
@@ -214,6 +230,7 @@ inRun s u = each (inVisit s u) (visits [] (u .it .items))
 unfoldable pub breaches : Story → List Breach
 breaches s = each (inRun s) (numbered 0 (runs s))
 
+-- the first of a list
 abbrev pub first : {A : Type 0} → List A → Option A
 first [] = none
 first (x ∷ xs) = some x

@@ -4,20 +4,20 @@ use mathlib.Core.List.{List, [], _∷_}
 use Prim.Native.Nat.{ℕ, zero, suc, _+_, _-_, _≤_, _<_}
 use native.Mathlib.Nat.{add-zero}
 use native.Mathlib.Omega.{arith}
-use lib.ListN.{length, getD, take, drop, length-take, length-drop}
+use lib.ListN.{length, getD, take, drop, length-take}
 use lib.Seq.{take-take, drop-drop, getD-take, getD-drop}
 use Rattle.fields.specs.declared.NameRead.{NameRead}
 use Rattle.fields.specs.declared.NameRead.the-variants as name
 use Rattle.fields.specs.Bytes.{nameOf}
 use Rattle.fields.proofs.Laws.{name-fits}
 use Rattle.names.specs.Counted.{nameAt}
+use Rattle.records.proofs.Places.{drop-take}
 use Rattle.story.specs.declared.Reach.the-variants as reach
 use Rattle.story.specs.Headings.{reachAt, namesReach, countedReach}
 use Rattle.story.specs.Items.{nameIn}
 use Rattle.story.specs.Flows.{namesN, countedIn, part}
 use Rattle.story.proofs.Reaches.{counted-read}
 use Rattle.story.proofs.Unfolding.{name-count}
-use Rattle.story.proofs.Parts.{drop-take}
 
 -- 1. Parts
 
@@ -47,10 +47,6 @@ part-piece n a b s h =
 pub part-none : (a b : ℕ) (s : List ℕ) → b ≤ a → part a b s ≡ []
 unfolding part
 part-none a b s h = let none : b - a ≡ 0 = omega arith in rw none
-
-pub part-length : (a b : ℕ) (s : List ℕ) → a ≤ b → b ≤ length s → length (part a b s) ≡ b - a
-unfolding part
-part-length a b s h k = simp (length-take, length-drop) (omega arith)
 
 pub part-short : (a b : ℕ) (s : List ℕ) → length (part a b s) ≤ b - a
 unfolding part

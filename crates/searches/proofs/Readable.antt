@@ -1,14 +1,9 @@
 -- Flows and stitches that can be read have a view, and their bodies and what follows them can be read too. Assumes nothing.
 use mathlib.Core.Path.{_≡_, refl, sym, _∙_}
 use mathlib.Core.List.{List, []}
-use Prim.Native.Nat.{ℕ, _+_, _≤_}
-use mathlib.Core.Bool.{Bool, true, false}
+use Prim.Native.Nat.{ℕ, _+_}
 use native.Mathlib.Omega.{arith}
-use lib.Dec.{ltb}
 use lib.ListN.{length}
-use borrow.Author.Tests.{ltb-true, ltb-false}
-use Rattle.names.specs.Words.{any}
-use Rattle.story.specs.Story.{Stitch}
 use Rattle.fields.specs.declared.Span.{Span}
 use Rattle.fields.specs.declared.Span.the-variants as span
 use Rattle.fields.specs.Bytes.{listOf}
@@ -18,9 +13,9 @@ use Rattle.story.specs.declared.Heading.{Heading}
 use Rattle.story.specs.declared.HeadingRead.{HeadingRead}
 use Rattle.story.specs.declared.HeadingRead.the-variants as heading
 use Rattle.story.specs.Headings.{headingOf}
-use Rattle.story.specs.Flows.{part, titled, stitch, flow, flows, piece, piecesIn, stitchIn, flowIn, flowsIn}
-use Rattle.story.proofs.Readable.{TitledWell, titled-well, titled-heading, piece-first, piece-rest, piece-front, flow-titled}
-use Rattle.story.proofs.Unfolding.{pieces-in-none, pieces-in-cut, pieces-in-step}
+use Rattle.story.specs.Flows.{part, titled, stitch, flow, flows, piece, piecesIn, stitchIn, flowIn, flowsIn, stitches}
+use Rattle.story.proofs.Readable.{TitledWell, titled-well, titled-heading, piece-first, piece-rest, flow-titled}
+use Rattle.story.proofs.Unfolding.{pieces-in-cut}
 use Rattle.searches.specs.declared.views.StitchView.{StitchView}
 use Rattle.searches.specs.declared.views.StitchViewRead.{StitchViewRead}
 use Rattle.searches.specs.declared.views.StitchViewRead.the-variants as stitch-view
@@ -28,7 +23,7 @@ use Rattle.searches.specs.declared.views.FlowView.{FlowView}
 use Rattle.searches.specs.declared.views.FlowViewRead.{FlowViewRead}
 use Rattle.searches.specs.declared.views.FlowViewRead.the-variants as flow-view
 use Rattle.searches.specs.Views.{titleViewAt, titleViewOf, stitchViewAt, stitchViewOf, flaggedView, flowViewAt, flowViewOf}
-use Rattle.searches.proofs.Parts.{part-drop, part-part, part-piece, part-none, part-length}
+use Rattle.searches.proofs.Parts.{part-drop, part-part, part-piece}
 use Rattle.searches.proofs.Viewed.{places, heading-fits, part-fits, title-viewed, stitch-seen, flow-seen}
 
 -- 1. What stands from a name on, where it can be read with k for what follows its nodes
@@ -67,9 +62,6 @@ module _ (g : Reading) (file : List ℕ) (at end n : ℕ) (read : span.Bytes n �
 
 -- 3. Stitches
 
-abbrev pub stitches : Reading
-stitches = repeat (piece stitch)
-
 -- the stitch's nodes can be read, and the stitches after it
 pub record GoodStitch (file : List ℕ) (end : ℕ) (v : StitchView) : Type 0 where
   pub body : ends (nodes (part (v .from) (v .to) file)) ≡ well
@@ -92,17 +84,6 @@ module _ (file : List ℕ) (at end : ℕ) (good : ends (stitches (part at end fi
       let t = title-viewed file (at + 4) (at + (4 + seen .n)) v (seen .title) in
       let own = title-readable file (at + 4) (at + (4 + seen .n)) ending (piece-good stitch file at end (seen .n) (seen .length) good) v (seen .title) in
       record { body = own .0; rest = rw (t .end) (pieces-good stitch file at end (seen .n) (seen .length) good) }
-
--- there are stitches exactly where there are bytes for them
-pub stitched : (file : List ℕ) (at end : ℕ) → end ≤ length file → ends (stitches (part at end file)) ≡ well
-    → ltb at end ≡ any (λ (t : Stitch). true) (piecesIn stitchIn at (part at end file))
-stitched file at end within good = by-test (ltb at end) refl
-  where
-    by-test : (i : Bool) → ltb at end ≡ i → i ≡ any (λ (t : Stitch). true) (piecesIn stitchIn at (part at end file))
-    by-test true t =
-        let some = piece-front stitch (part at end file) good (omega (arith, ltb-true at end t, part-length at end file (omega (arith, ltb-true at end t)) within)) in
-        rw (pieces-in-step stitchIn at (some .0) (part at end file) (sym (some .1)) refl)
-    by-test false t = rw (part-none at end file (ltb-false at end t), pieces-in-none stitchIn at [] (omega arith))
 
 -- 4. Flows
 

@@ -32,9 +32,11 @@ titleViewAt (heading.At h) p e = stitch.View (record {
 })
 titleViewAt (heading.Refused r) p e = stitch.None
 
+-- the same, read in the file from p to e
 unfoldable pub titleViewOf : List ℕ → ℕ → ℕ → StitchViewRead
 titleViewOf file p e = titleViewAt (headingOf (part p e file)) p e
 
+-- the stitch at the place, of this length
 unfoldable pub stitchViewAt : Span → List ℕ → ℕ → StitchViewRead
 stitchViewAt (span.Bytes n) file at = titleViewOf file (at + 4) (at + (4 + n))
 stitchViewAt span.Cut file at = stitch.None
@@ -58,6 +60,7 @@ flaggedView (stitch.View v) file at = flow.View (record {
 })
 flaggedView stitch.None file at = flow.None
 
+-- the flow at the place, of this length
 unfoldable pub flowViewAt : Span → List ℕ → ℕ → FlowViewRead
 flowViewAt (span.Bytes n) file at = flaggedView (titleViewOf file (at + 5) (at + (4 + n))) file at
 flowViewAt span.Cut file at = flow.None

@@ -18,6 +18,7 @@ pub struct StitchView {
     pub end: usize,
 }
 
+// The view of a stitch, or that there is none.
 pub enum StitchViewRead {
     View(StitchView),
     None,
@@ -36,6 +37,7 @@ pub struct FlowView {
     pub end: usize,
 }
 
+// The view of a flow, or that there is none.
 pub enum FlowViewRead {
     View(FlowView),
     None,

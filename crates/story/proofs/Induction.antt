@@ -39,9 +39,11 @@ pub record Kept (P : ℕ → ℕ → Trace → Type 0) : Type 0 where
       → P 0 (5 + length s) (emit role kind 0 s (shift 5 (bodyOf b (recordOf left) s)))
 
 module _ (P : ℕ → ℕ → Trace → Type 0) (kept : Kept P) where
+  -- P of a reading, whatever the bytes
   abbrev Holds : Reading → Type 0
   Holds k = (s : List ℕ) → P 0 (length s) (k s)
 
+  -- P of a reader of one record
   abbrev HoldsRecord : Reader → Type 0
   HoldsRecord f = (kind : ℕ) (s : List ℕ) → P 0 (5 + length s) (f kind s)
 

@@ -1,7 +1,7 @@
 -- A name is what the file has at its place: in a part of the file, in a section, in a list of parameters, in a record. Assumes nothing.
 use mathlib.Core.Path.{_≡_, refl, sym, _∙_, ap}
 use mathlib.Core.List.{List, [], _∷_, List·Memᴰ, List·Memᴰ·not-nil, List·Memᴰ·cases-cons}
-use mathlib.Core.Bool.{Bool, true, false, not, _&&_, _||_}
+use mathlib.Core.Bool.{Bool, true, false, _||_}
 use mathlib.Core.Logic.{_⊎_, inl, inr}
 use Prim.Native.Nat.{ℕ, zero, suc, _+_, _-_, _≤_, _<_}
 use native.Mathlib.Nat.{add-assoc, add-zero}
@@ -11,7 +11,6 @@ use lib.Dec.{eqb, ltb}
 use lib.ListN.{length, getD, take, drop, length-take, length-drop}
 use lib.Seq.{take-all, take-take, drop-drop, getD-take, getD-drop}
 use borrow.Author.Tests.{ltb-true, ltb-false}
-use Rattle.fields.specs.declared.Role.{Role}
 use Rattle.fields.specs.declared.NameRead.{NameRead}
 use Rattle.fields.specs.declared.NameRead.the-variants as name
 use Rattle.fields.specs.Bytes.{pick, nameOf}
@@ -19,16 +18,15 @@ use Rattle.fields.proofs.Laws.{name-fits}
 use Rattle.names.specs.Counted.{nameAt}
 use Rattle.records.specs.Trace.{Record, met, well, ends}
 use Rattle.records.specs.Grammar.{nodes}
-use Rattle.records.proofs.Places.{stands-in-file, lies-within}
+use Rattle.records.proofs.Places.{stands-in-file, lies-within, drop-take}
 use Rattle.story.specs.declared.Reach.the-variants as reach
-use Rattle.story.specs.Story.{Name, Kind, plain, temp, divert, tunnel, thread, call, variable, argument, choice, gather, parameter, stitchName, flowStart, code, What, is, Item}
+use Rattle.story.specs.Story.{Name, Kind, plain, temp, divert, tunnel, thread, call, variable, argument, choice, gather, parameter, stitchName, flowStart, code, Item}
 use Rattle.story.specs.Items.{nameIn, sortOf, nameStart, nameless, recordName, labelled, whatOf, itemAs, itemOf, itemsIn}
 use Rattle.story.specs.Headings.{reachAt, namesReach, countedReach}
 use Rattle.story.specs.Flows.{names, namesN, countedIn, part}
 use Rattle.story.proofs.Reaches.{counted-read}
 use Rattle.story.proofs.Unfolding.{front, name-count, names-n-step}
 use Rattle.story.proofs.Readable.{names-front, names-rest}
-use Rattle.story.proofs.Parts.{drop-take}
 use Rattle.story.proofs.Places.{item-of}
 use Rattle.story.proofs.WellInside.{record-bears}
 use Rattle.story.proofs.RecordNames.{HasName, bears-name}
@@ -129,26 +127,6 @@ counted-as-file {file} {b} {s} l p q m i =
 
 -- 3. Items
 
--- no name: a plain record, or a choice without a label
-abbrev pub bare : What → Bool
-bare w = is plain w || (is choice w && not (w .labels))
-
-bare-nameless : (role : Role) (sort : Kind) (payload : List ℕ) → bare (whatOf role sort payload) ≡ nameless sort payload
-unfolding whatOf nameless labelled
-bare-nameless role plain payload = refl
-bare-nameless role temp payload = refl
-bare-nameless role divert payload = refl
-bare-nameless role tunnel payload = refl
-bare-nameless role thread payload = refl
-bare-nameless role call payload = refl
-bare-nameless role variable payload = refl
-bare-nameless role argument payload = refl
-bare-nameless role choice payload = refl
-bare-nameless role gather payload = refl
-bare-nameless role parameter payload = refl
-bare-nameless role stitchName payload = refl
-bare-nameless role flowStart payload = refl
-
 -- a label is a name
 label-nameless : (sort : Kind) (payload : List ℕ) → labelled sort payload ≡ true → nameless sort payload ≡ false
 unfolding nameless labelled
@@ -198,14 +176,6 @@ module _ {file : List ℕ} {b : ℕ} {t : List ℕ} (l : Lies file b t) (good : 
         name = rw h (name-in-lies (lies-at (lies-drop payload (nameStart sort)) at) has);
         before = omega (arith, fits, length-drop (nameStart sort) (r .payload), lies-within b t r m);
       }
-
-  -- an item that has a name
-  pub item-as-file : (i : Item) → List·Memᴰ i (itemsIn b t) → bare (i .what) ≡ false → NamedItem file (b + length t) i
-  unfolding itemOf itemAs
-  item-as-file i m h =
-      let o = item-of b t i m in
-      let r = o .0 in
-      rw (← o .2) (record-as-file r (o .1) (sym (bare-nameless (r .role) (sortOf (r .role) (r .kind) (r .payload)) (r .payload)) ∙ (rw (← o .2) at h)))
 
   -- a label
   pub label-as-file : (i : Item) → List·Memᴰ i (itemsIn b t) → i .what .labels ≡ true → NamedItem file (b + length t) i

@@ -24,6 +24,7 @@ use Rattle.story.proofs.Endings.{thenEnds, ends-then, ends-shift}
 
 -- 1. The trailer
 
+-- the refusals by their tests
 abbrev tested : Bool → Bool → Bool → Bool → Bool → Bool → Bool → List ℕ → Opened
 tested short long mark first second third fourth s =
     pick (short || long) (opened.Refused Length)

@@ -1,7 +1,7 @@
 -- The names of a readable file in file order: they rise, lie before the trailer, and are what the file has at their places. Assumes nothing.
 use mathlib.Core.Path.{_≡_, refl, sym, _∙_, ap}
 use mathlib.Core.List.{List, [], _∷_, _++_, map, List·Memᴰ, List·Memᴰ·not-nil, List·Memᴰ·cases-cons, List·Memᴰ·append-cases, List·Memᴰ·eq-of-singleton, Memᴰ·of-map}
-use mathlib.Core.Bool.{true, false}
+use mathlib.Core.Bool.{true}
 use mathlib.Core.Logic.{⊎-elim}
 use Prim.Native.Nat.{ℕ, zero, suc, _+_, _-_, _≤_, _<_}
 use native.Mathlib.Omega.{arith}
@@ -12,7 +12,6 @@ use Rattle.fields.specs.declared.Span.the-variants as span
 use Rattle.fields.specs.Bytes.{listOf}
 use Rattle.fields.proofs.Laws.{list-fits}
 use Rattle.names.specs.Words.{Sorted, only, each}
-use Rattle.names.specs.Counted.{nameAt}
 use Rattle.names.proofs.Bools.{is-true}
 use Rattle.names.proofs.Lists.{of-only, of-each, sorted-append, sorted-each, sorted-only}
 use Rattle.records.specs.Trace.{Record, met, Ending, well, refused, ends}
@@ -21,18 +20,18 @@ use Rattle.records.proofs.Places.{lies-within}
 use Rattle.story.specs.declared.Sections.{Sections}
 use Rattle.story.specs.declared.Reach.the-variants as reach
 use Rattle.story.specs.declared.Heading.{Heading}
-use Rattle.story.specs.Story.{Name, Item, Stitch, Flow, Story}
+use Rattle.story.specs.Story.{Name, Item, Stitch, Flow, Story, ownName}
 use Rattle.story.specs.Items.{nameIn, itemOf, itemsAs, itemsIn}
 use Rattle.story.specs.Headings.{countedReach}
-use Rattle.story.specs.Flows.{names, piece, stitch, flow, flows, namesIn, countedIn, part, piecesAt, piecesN, piecesIn, stitchIn, flowIn, flowsIn}
+use Rattle.story.specs.Flows.{names, piece, stitch, flow, flows, namesIn, countedIn, part, piecesAt, piecesN, piecesIn, stitchIn, flowIn, flowsIn, stitches}
 use Rattle.story.specs.File.{storyIn}
 use Rattle.story.proofs.Reaches.{counted-fits}
 use Rattle.story.proofs.Unfolding.{titled-in, flow-in}
 use Rattle.story.proofs.Readable.{Readable, piece-first, piece-rest, flows-pieces, TitledWell, titled-heading, flow-titled, stitch-titled}
-use Rattle.story.proofs.Parts.{counted-part}
+use Rattle.story.proofs.Parts.{counted-part, part-length}
 use Rattle.story.proofs.Places.{NameBefore, name-within, names-rise, counted-rise, item-of}
 use Rattle.story.proofs.WellInside.{Apart, records-apart}
-use Rattle.story.proofs.Named.{Lies, lies-in-file, lies-at, lies-drop, lies-take, lies-part, AsFile, names-as-file, counted-as-file, name-in-lies, named-near, bare, item-as-file, label-as-file}
+use Rattle.story.proofs.Named.{Lies, lies-in-file, lies-at, lies-drop, lies-take, lies-part, AsFile, names-as-file, counted-as-file, name-in-lies, named-near, label-as-file}
 
 -- 1. Names between two places of a file
 
@@ -85,12 +84,10 @@ module _ {file : List ℕ} {b : ℕ} {t : List ℕ} (l : Lies file b t) where
       between m i = inside m (rw (counted-part (b + p) p t q) i)
 
 -- the labels of a body, as names
-abbrev pub labelName : Item → Name
-labelName i = record { at = i .named; bytes = i .what .name }
-
 unfoldable pub labelNames : List Item → List Name
-labelNames body = each (λ (i : Item). only (i .what .labels) (labelName i)) body
+labelNames body = each (λ (i : Item). only (i .what .labels) (ownName i)) body
 
+-- named at an earlier place
 abbrev NamedBefore : Item → Item → Type 0
 NamedBefore i j = i .named < j .named
 
@@ -112,10 +109,10 @@ items-named-rise b t = by-end (ends (nodes t))
     by-end (refused x) = tt
 
 -- a label is the name of an item
-label-of : (b : ℕ) (t : List ℕ) (m : Name) → List·Memᴰ m (labelNames (itemsIn b t)) → (i : Item) × List·Memᴰ i (itemsIn b t) × (i .what .labels ≡ true) × (m ≡ labelName i)
+label-of : (b : ℕ) (t : List ℕ) (m : Name) → List·Memᴰ m (labelNames (itemsIn b t)) → (i : Item) × List·Memᴰ i (itemsIn b t) × (i .what .labels ≡ true) × (m ≡ ownName i)
 unfolding labelNames
 label-of b t m k =
-    let o = of-each (λ (i : Item). only (i .what .labels) (labelName i)) (itemsIn b t) k in
+    let o = of-each (λ (i : Item). only (i .what .labels) (ownName i)) (itemsIn b t) k in
     let p = of-only (o .0 .what .labels) (o .2) in
     (o .0, o .1, is-true (o .0 .what .labels) (p .0), p .1)
 
@@ -139,19 +136,21 @@ module _ {file : List ℕ} {b : ℕ} {t : List ℕ} (l : Lies file b t) (good : 
   labels-own = record { rise = rising; within = labels-within; as-file = labels-as-file }
     where
       rising : Sorted NameBefore (labelNames (itemsIn b t))
-      rising = sorted-each NamedBefore NameBefore (λ (i : Item). only (i .what .labels) (labelName i)) (itemsIn b t) (items-named-rise b t)
-          (λ i m. sorted-only NameBefore (i .what .labels) (labelName i))
+      rising = sorted-each NamedBefore NameBefore (λ (i : Item). only (i .what .labels) (ownName i)) (itemsIn b t) (items-named-rise b t)
+          (λ i m. sorted-only NameBefore (i .what .labels) (ownName i))
           (λ i j x y q p r. omega (arith, q, ap (λ (n : Name). n .at) (of-only (i .what .labels) p .1), ap (λ (n : Name). n .at) (of-only (j .what .labels) r .1)))
 
 -- 3. Titles, stitches and flows
 
--- the names that a stitch, a flow and a story own, in file order
+-- the names that a stitch owns, in file order
 abbrev pub stitchNames : Stitch → List Name
 stitchNames t = t .name ∷ t .params ++ labelNames (t .body)
 
+-- those of a flow
 abbrev pub flowNames : Flow → List Name
 flowNames f = f .name ∷ f .params ++ labelNames (f .body) ++ each stitchNames (f .stitches)
 
+-- those of a story
 abbrev pub ownNames : Story → List Name
 ownNames s = s .globals ++ labelNames (s .root) ++ each flowNames (s .flows)
 
@@ -218,7 +217,7 @@ module _ {file : List ℕ} (p : ℕ) (u : List ℕ) (l : Lies file (p + 4) u) wh
   pub flow-own : ends (flow u) ≡ well → Own file p (p + (4 + length u)) (flowNames (flowIn p u))
   flow-own good =
       let f = flow-titled u good in
-      let d = titled-heading (repeat (piece stitch)) (drop 1 u) (f .1) in
+      let d = titled-heading stitches (drop 1 u) (f .1) in
       let h = d .0 in
       let begin : p + 4 + 1 ≡ p + 5 = omega arith in
       let after : p + 4 + (1 + h .end) ≡ p + (5 + h .end) = omega arith in
@@ -229,63 +228,15 @@ module _ {file : List ℕ} (p : ℕ) (u : List ℕ) (l : Lies file (p + 4) u) wh
       (own-append {mid = p + (5 + h .end)} _ _ (omega arith) (omega arith) (own-wider (omega arith) (omega arith) title)
       (own-wider (omega arith) (omega (arith, length-drop (1 + h .end) u)) stitches))
 
--- a title's names and its items' names are what the file has at their places
-pub record TitleNamed (file : List ℕ) (n : Name) (ps qs : List Name) (items : List Item) : Type 0 where
-  pub name : AsFile file n
-  pub params : (m : Name) → List·Memᴰ m ps → AsFile file m
-  pub marks : (m : Name) → List·Memᴰ m qs → AsFile file m
-  pub body : (i : Item) → List·Memᴰ i items → bare (i .what) ≡ false → i .what .name ≡ nameAt file (i .named)
-
-abbrev pub StitchNamed : List ℕ → Stitch → Type 0
-StitchNamed file t = TitleNamed file (t .name) (t .params) (t .marks) (t .body)
-
-pub record FlowNamed (file : List ℕ) (f : Flow) : Type 0 where
-  pub own : TitleNamed file (f .name) (f .params) (f .marks) (f .body)
-  pub stitches : (t : Stitch) → List·Memᴰ t (f .stitches) → StitchNamed file t
-
-title-named : {file : List ℕ} {at : ℕ} {k : Reading} {h : Heading} {s : List ℕ} → Lies file at s → TitledWell k h s
-    → TitleNamed file (record { at = at; bytes = nameIn s }) (countedIn (at + h .params) (drop (h .params) s)) (countedIn (at + h .marks) (drop (h .marks) s)) (itemsIn (at + h .nodes) (part (h .nodes) (h .end) s))
-title-named {h = h} l w = record {
-  name = name-in-lies l (h .params - 1, w .laid .name-read);
-  params = counted-as-file l (h .params) (w .laid .params-read);
-  marks = counted-as-file l (h .marks) (w .laid .marks-read);
-  body = λ i m b. item-as-file (lies-part l (h .nodes) (h .end)) (w .nodes) i m b .name;
-}
-
-stitch-named : {file : List ℕ} (p : ℕ) (u : List ℕ) → Lies file (p + 4) u → ends (stitch u) ≡ well → StitchNamed file (stitchIn p u)
-unfolding stitchIn
-stitch-named p u l good =
-    let d = titled-heading ending u (stitch-titled u good) in rw (titled-in (p + 4) u (d .0) refl (d .1 .told)) (title-named l (d .1))
-
-flow-named : {file : List ℕ} (p : ℕ) (u : List ℕ) → Lies file (p + 4) u → ends (flow u) ≡ well → FlowNamed file (flowIn p u)
-flow-named {file} p u l good =
-    let f = flow-titled u good in
-    let d = titled-heading (repeat (piece stitch)) (drop 1 u) (f .1) in
-    let h = d .0 in
-    let begin : p + 4 + 1 ≡ p + 5 = omega arith in
-    let after : p + 4 + (1 + h .end) ≡ p + (5 + h .end) = omega arith in
-    rw (flow-in p u h refl (d .1 .told)) (record {
-      own = title-named (lies-at (lies-drop l 1) begin) (d .1);
-      stitches = pieces-each stitch stitchIn (StitchNamed file) stitch-named (drop (1 + h .end) u) (lies-at (lies-drop l (1 + h .end)) after) (rw (drop-drop (h .end) 1 u) at (d .1 .rest));
-    })
-
 -- 4. A readable file
-
-part-length : (a b : ℕ) (s : List ℕ) → a ≤ b → b ≤ length s → length (part a b s) ≡ b - a
-unfolding part
-part-length a b s p q = omega (arith, length-take (b - a) (drop a s), length-drop a s)
 
 module _ (c : Sections) (s : List ℕ) (r : Readable c s) where
   section : {a b : ℕ} {l : List Name} → a ≤ b → b ≤ length s → Own s a (a + length (part a b s)) l → Own s a b l
-  section {a} {b} p q o = own-wider (omega arith) (omega (arith, part-length a b s p q)) o
+  section {a} {b} p q o = own-wider (omega arith) (omega (arith, part-length a b s q)) o
 
   pub globals-own : Own s 0 (c .externals) (storyIn c s .globals)
   unfolding storyIn
   globals-own = section (omega arith) (omega (arith, r .order)) (names-own (lies-in-file s 0 (c .externals)) (r .globals))
-
-  pub externals-own : Own s (c .externals) (c .root) (storyIn c s .externals)
-  unfolding storyIn
-  externals-own = section (r .order .externals) (omega (arith, r .order)) (names-own (lies-in-file s (c .externals) (c .root)) (r .externals))
 
   pub root-own : Own s (c .root) (c .flows) (labelNames (storyIn c s .root))
   unfolding storyIn
@@ -302,12 +253,3 @@ module _ (c : Sections) (s : List ℕ) (r : Readable c s) where
   story-own =
       own-append _ _ (omega arith) (r .order .flows)
       (own-append {mid = c .root} _ _ (omega arith) (r .order .root) (own-wider (omega arith) (r .order .externals) globals-own) root-own) flows-own
-
-  pub root-named : (i : Item) → List·Memᴰ i (storyIn c s .root) → bare (i .what) ≡ false → i .what .name ≡ nameAt s (i .named)
-  unfolding storyIn
-  root-named i m b = item-as-file (lies-in-file s (c .root) (c .flows)) (r .root) i m b .name
-
-  pub flows-named : (f : Flow) → List·Memᴰ f (storyIn c s .flows) → FlowNamed s f
-  unfolding storyIn flowsIn
-  flows-named f m =
-      pieces-each flow flowIn (FlowNamed s) flow-named (part (c .flows) (c .end) s) (lies-in-file s (c .flows) (c .end)) (sym (flows-pieces (part (c .flows) (c .end) s)) ∙ r .flows) f m

@@ -1,27 +1,27 @@
 -- What is read in a part of the bytes is what is read in the bytes, where it lies in the part. Assumes nothing.
 use mathlib.Core.Path.{_≡_, refl, sym, _∙_}
-use mathlib.Core.List.{List, [], _∷_}
+use mathlib.Core.List.{List}
 use Prim.Native.Nat.{ℕ, zero, suc, _+_, _-_, _≤_}
-use native.Mathlib.Nat.{zero-sub, add-zero}
-use native.Mathlib.Numerals.{unary-clauses, sub-one}
+use native.Mathlib.Nat.{add-zero}
+use native.Mathlib.Numerals.{sub-one}
 use native.Mathlib.Omega.{arith}
 use lib.ListN.{length, getD, take, drop, length-take, length-drop}
-use lib.Seq.{take-take, drop-drop, take-nil, getD-take, getD-drop}
+use lib.Seq.{take-take, drop-drop, getD-take, getD-drop}
 use Rattle.fields.specs.declared.NameRead.{NameRead}
 use Rattle.fields.specs.declared.NameRead.the-variants as name
 use Rattle.fields.specs.Bytes.{nameOf}
 use Rattle.fields.proofs.Laws.{name-fits, name-whole}
+use Rattle.records.proofs.Places.{drop-take}
 use Rattle.story.specs.declared.Reach.the-variants as reach
 use Rattle.story.specs.Headings.{reachAt, namesReach, countedReach}
 use Rattle.story.specs.Flows.{namesN, countedIn, part}
 use Rattle.story.proofs.Reaches.{names-fit, counted-read}
 use Rattle.story.proofs.Unfolding.{front, name-count, names-n-step}
 
-pub drop-take : (p n : ℕ) (s : List ℕ) → drop p (take n s) ≡ take (n - p) (drop p s)
-drop-take zero n s = simp unary-clauses
-drop-take (suc p) zero s = rw (zero-sub (suc p))
-drop-take (suc p) (suc n) [] = simp (unary-clauses, take-nil)
-drop-take (suc p) (suc n) (x ∷ s) = simp unary-clauses (drop-take p n s)
+-- how long a part is
+pub part-length : (a b : ℕ) (s : List ℕ) → b ≤ length s → length (part a b s) ≡ b - a
+unfolding part
+part-length a b s h = simp (length-take, length-drop) (omega arith)
 
 -- a name in the first m bytes
 pub name-part : (m : ℕ) (t : List ℕ) (k : ℕ) → nameOf t ≡ name.Bytes k → 1 + k ≤ m → nameOf (take m t) ≡ name.Bytes k

@@ -14,19 +14,18 @@ use Rattle.fields.specs.Bytes.{listOf, nameOf}
 use Rattle.fields.proofs.Laws.{to-end, part}
 use Rattle.records.specs.Trace.{shift, well, refused, ends}
 use Rattle.records.specs.Grammar.{Reading, repeat, namedAt, named}
-use Rattle.records.proofs.Readings.{repeat-none}
+use Rattle.records.proofs.Readings.{Local, repeat-none, repeat-step}
 use Rattle.story.specs.declared.Ended.{Ended}
 use Rattle.story.specs.declared.Ended.the-variants as ended
 use Rattle.story.specs.Flows.{pieceAt, piece, names}
 use Rattle.story.specs.Endings.{endOf}
-use Rattle.story.proofs.Repeats.{Onward, first-piece}
 use Rattle.story.proofs.Endings.{thenEnds, ends-then, ends-shift, well-then, other-then}
 
 -- 1. Names
 
-named-onward : Onward named
-unfolding namedAt
-named-onward s j k e = by-name (nameOf s)
+named-local : Local named
+unfolding Local namedAt
+named-local s j k e = by-name (nameOf s)
   where
     by-name : (r : NameRead) → namedAt r j s ≡ namedAt r k s
     by-name (name.Bytes n) = rw (e (1 + n) (omega arith))
@@ -40,18 +39,18 @@ module _ (s : List ℕ) where
   -- the ending of names is that of those after the first
   pub names-on : (k : ℕ) {r : NameRead} → 0 < length s → r ≡ nameOf s → r ≡ name.Bytes k → ends (names s) ≡ ends (names (drop (1 + k) s))
   unfolding names namedAt
-  names-on k h p q = rw (first-piece named named-onward s h, ← p, q) (ends-shift (1 + k) (repeat named (drop (1 + k) s)))
+  names-on k h p q = rw (repeat-step named named-local s h, ← p, q) (ends-shift (1 + k) (repeat named (drop (1 + k) s)))
 
   pub names-refused : {x : Refusal} {r : NameRead} → 0 < length s → r ≡ nameOf s → r ≡ name.Refused x → ends (names s) ≡ refused x
   unfolding names namedAt ends
-  names-refused h p q = rw (first-piece named named-onward s h, ← p, q)
+  names-refused h p q = rw (repeat-step named named-local s h, ← p, q)
 
 -- 2. Pieces
 
 module _ (g : Reading) where
-  piece-onward : Onward (piece g)
-  unfolding pieceAt
-  piece-onward s j k e = by-span (listOf s)
+  piece-local : Local (piece g)
+  unfolding Local pieceAt
+  piece-local s j k e = by-span (listOf s)
     where
       by-span : (r : Span) → pieceAt r g j s ≡ pieceAt r g k s
       by-span (span.Bytes n) = rw (e (4 + n) (omega arith))
@@ -64,14 +63,14 @@ module _ (g : Reading) where
 
     pub pieces-cut : {r : Span} → 0 < length s → r ≡ listOf s → r ≡ span.Cut → ends (repeat (piece g) s) ≡ refused Short
     unfolding pieceAt ends
-    pieces-cut h p q = rw (first-piece (piece g) piece-onward s h, ← p, q)
+    pieces-cut h p q = rw (repeat-step (piece g) piece-local s h, ← p, q)
 
     -- the ending of the first piece, or that of those after it
     pub pieces-step : (n : ℕ) {r : Span} → 0 < length s → r ≡ listOf s → r ≡ span.Bytes n
         → ends (repeat (piece g) s) ≡ thenEnds (ends (g (take n (drop 4 s)))) (ends (repeat (piece g) (drop (4 + n) s)))
     unfolding pieceAt
     pieces-step n h p q =
-        rw (first-piece (piece g) piece-onward s h, ← p, q, ends-then (shift 4 (g (take n (drop 4 s)))) (shift (4 + n) (repeat (piece g) (drop (4 + n) s))), ends-shift 4 (g (take n (drop 4 s))), ends-shift (4 + n) (repeat (piece g) (drop (4 + n) s)))
+        rw (repeat-step (piece g) piece-local s h, ← p, q, ends-then (shift 4 (g (take n (drop 4 s)))) (shift (4 + n) (repeat (piece g) (drop (4 + n) s))), ends-shift 4 (g (take n (drop 4 s))), ends-shift (4 + n) (repeat (piece g) (drop (4 + n) s)))
 
     -- as the code takes the parts: the first piece is answered as good, or not
     module _ (n : ℕ) {r : Span} {e : Ended} (some-left : 0 < length s) (told : r ≡ listOf s) (long : r ≡ span.Bytes n)

@@ -11,7 +11,6 @@ use Rattle.fields.specs.declared.Span.the-variants as span
 use Rattle.fields.specs.Bytes.{listOf}
 use Rattle.records.specs.Trace.{Record, met, Ending, well, refused, ends}
 use Rattle.records.specs.Grammar.{nodes}
-use Rattle.records.specs.Sorted as records
 use Rattle.records.proofs.Places.{places-rise, lies-within}
 use Rattle.story.specs.declared.Sections.{Sections}
 use Rattle.story.specs.declared.HeadingRead.{HeadingRead}
@@ -19,13 +18,14 @@ use Rattle.story.specs.declared.HeadingRead.the-variants as heading
 use Rattle.story.specs.Story.{Name, Item, Stitch, Flow}
 use Rattle.story.specs.Items.{itemAs, itemOf, itemsAs, itemsIn}
 use Rattle.story.specs.Headings.{headingOf}
-use Rattle.story.specs.Flows.{namesN, namesIn, countedIn, titledAt, titledIn, piecesAt, piecesN, piecesIn, stitchIn, stitchesFrom, flowIn, flowsIn, part}
+use Rattle.story.specs.Flows.{namesN, countedIn, titledAt, titledIn, piecesAt, piecesN, piecesIn, stitchIn, stitchesFrom, flowIn, flowsIn, part}
 use Rattle.story.specs.File.{storyIn}
 
 -- one item before another, and one name before another
 abbrev pub ItemBefore : Item → Item → Type 0
 ItemBefore i j = i .place < j .place
 
+-- at an earlier place
 abbrev pub NameBefore : Name → Name → Type 0
 NameBefore m n = m .at < n .at
 
@@ -49,17 +49,13 @@ names-rise zero at s = tt
 names-rise (suc n) at [] = tt
 names-rise (suc n) at (x ∷ s) = (λ m i. omega (arith, name-within n (at + (1 + x)) (drop x s) m i), names-rise n (at + (1 + x)) (drop x s))
 
-pub names-in-rise : (at : ℕ) (s : List ℕ) → Sorted NameBefore (namesIn at s)
-unfolding namesIn
-names-in-rise at s = names-rise (length s) at s
-
 pub counted-rise : (at : ℕ) (s : List ℕ) → Sorted NameBefore (countedIn at s)
 unfolding countedIn
 counted-rise at s = names-rise (getD s 0 0) (at + 1) (drop 1 s)
 
 -- 2. Items
 
-items-sorted : (rs : List Record) → records.Sorted (λ (x y : Record). x .place < y .place) rs → Sorted ItemBefore (map itemOf rs)
+items-sorted : (rs : List Record) → Sorted (λ (x y : Record). x .place < y .place) rs → Sorted ItemBefore (map itemOf rs)
 unfolding itemOf itemAs
 items-sorted [] h = tt
 items-sorted (r ∷ rs) h = (later, items-sorted rs (h .1))

@@ -165,6 +165,7 @@ reach-end s (suc many) at h = absurd (omega arith)
 
 -- 4. A flow's or a stitch's title
 
+-- the records of its node list
 abbrev body : Reader
 body = recordOf 64 Node
 

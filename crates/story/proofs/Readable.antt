@@ -1,9 +1,9 @@
 -- The parts of a readable file are readable: its sections, each name, each flow, each stitch, each list of nodes. Assumes nothing.
 use mathlib.Core.Path.{_≡_, refl, sym, _∙_, ap}
-use mathlib.Core.List.{List, [], _∷_}
+use mathlib.Core.List.{List}
 use Prim.Native.Nat.{ℕ, _+_, _≤_, _<_}
 use native.Mathlib.Omega.{arith}
-use lib.ListN.{length, take, drop, length-drop}
+use lib.ListN.{length, take, drop}
 use Rattle.fields.specs.declared.Refusal.{Refusal}
 use Rattle.fields.specs.declared.NameRead.{NameRead}
 use Rattle.fields.specs.declared.NameRead.the-variants as name
@@ -22,7 +22,7 @@ use Rattle.story.specs.declared.Heading.{Heading}
 use Rattle.story.specs.declared.HeadingRead.{HeadingRead}
 use Rattle.story.specs.declared.HeadingRead.the-variants as heading
 use Rattle.story.specs.Headings.{headingOf}
-use Rattle.story.specs.Flows.{names, titled, piece, stitch, flow, flows, part}
+use Rattle.story.specs.Flows.{names, titled, piece, stitch, flow, flows, part, stitches}
 use Rattle.story.specs.File.{InOrder, openedOf, sectionsRead, readEnded, readAt, readOf}
 use Rattle.story.specs.Endings.{reachOf, titledReachAt, titledReach}
 use Rattle.story.proofs.Endings.{first-well, second-well}
@@ -95,13 +95,6 @@ module _ (g : Reading) (t : List ℕ) (good : ends (repeat (piece g) t) ≡ well
   pub piece-never-cut : {r : Span} → 0 < length t → r ≡ listOf t → r ≡ span.Cut → ⊥
   piece-never-cut h p q = let e = pieces-cut g t h p q in let z : _≡_ {A = ℕ} 0 1 = cc in omega arith
 
-  pub piece-front : 0 < length t → (n : ℕ) × (listOf t ≡ span.Bytes n)
-  piece-front h = by-span (listOf t) refl
-    where
-      by-span : (r : Span) → r ≡ listOf t → (n : ℕ) × (listOf t ≡ span.Bytes n)
-      by-span (span.Bytes n) p = (n, sym p)
-      by-span span.Cut p = absurd (piece-never-cut h p refl)
-
 -- flows are pieces
 pub flows-pieces : (t : List ℕ) → ends (flows t) ≡ ends (repeat (piece flow) t)
 unfolding flows
@@ -109,6 +102,7 @@ flows-pieces t = refl
 
 -- 4. A title, then what follows it by k
 
+-- a title that is read well: its heading, its nodes, and what follows them
 pub record TitledWell (k : Reading) (h : Heading) (s : List ℕ) : Type 0 where
   pub told : headingOf s ≡ heading.At h
   pub laid : Laid h s
@@ -143,30 +137,18 @@ module _ (k : Reading) (s : List ℕ) (good : ends (titled k s) ≡ well) where
 -- 5. A flow and a stitch
 
 module _ (s : List ℕ) (good : ends (flow s) ≡ well) where
-  flag-well : (r : FlagRead) → r ≡ flagOf s → flagEnds r (ends (titled (repeat (piece stitch)) (drop 1 s))) ≡ well → (1 ≤ length s) × (ends (titled (repeat (piece stitch)) (drop 1 s)) ≡ well)
+  flag-well : (r : FlagRead) → r ≡ flagOf s → flagEnds r (ends (titled stitches (drop 1 s))) ≡ well → (1 ≤ length s) × (ends (titled stitches (drop 1 s)) ≡ well)
   unfolding flagEnds
   flag-well flag.Off p e = (off-fits s p refl, e)
   flag-well flag.On p e = (on-fits s p refl, e)
   flag-well (flag.Refused x) p e = let z : _≡_ {A = ℕ} 0 1 = cc in absurd (omega arith)
 
   -- after its flag a flow is a title and stitches
-  pub flow-titled : (1 ≤ length s) × (ends (titled (repeat (piece stitch)) (drop 1 s)) ≡ well)
+  pub flow-titled : (1 ≤ length s) × (ends (titled stitches (drop 1 s)) ≡ well)
   flow-titled = flag-well (flagOf s) refl (sym (flow-ends s) ∙ good)
-
-  pub flow-flag-known : {x : Refusal} {r : FlagRead} → r ≡ flagOf s → r ≡ flag.Refused x → ⊥
-  unfolding flagEnds
-  flow-flag-known p q = let e = rw (flow-ends s, sym p ∙ q) at good in let z : _≡_ {A = ℕ} 0 1 = cc in omega arith
-
-ending-well : (s : List ℕ) → ends (ending s) ≡ well → length s ≤ 0
-unfolding ending ends
-ending-well [] e = omega arith
-ending-well (x ∷ s) e = let z : _≡_ {A = ℕ} 0 1 = cc in absurd (omega arith)
 
 module _ (s : List ℕ) (good : ends (stitch s) ≡ well) where
   -- a stitch is a title and nothing more
   pub stitch-titled : ends (titled ending s) ≡ well
   unfolding stitch
   stitch-titled = good
-
-  pub stitch-ends-at : (h : Heading) → TitledWell ending h s → h .end ≡ length s
-  stitch-ends-at h w = omega (arith, ending-well (drop (h .end) s) (w .rest), length-drop (h .end) s, w .laid .within)

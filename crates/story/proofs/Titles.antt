@@ -11,7 +11,7 @@ use Rattle.fields.specs.declared.FlagRead.the-variants as flag
 use Rattle.fields.specs.Bytes.{flagOf}
 use Rattle.fields.proofs.Laws.{to-end}
 use Rattle.records.specs.Trace.{Ending, well, refused, ends}
-use Rattle.records.specs.Grammar.{Reading, repeat, ending, flaggedAt, nodes}
+use Rattle.records.specs.Grammar.{Reading, ending, flaggedAt, nodes}
 use Rattle.records.specs.declared.Walk.{Walk}
 use Rattle.records.specs.declared.Walk.the-variants as walk
 use Rattle.records.specs.Window.{walked}
@@ -23,7 +23,7 @@ use Rattle.story.specs.declared.Heading.{Heading}
 use Rattle.story.specs.declared.HeadingRead.{HeadingRead}
 use Rattle.story.specs.declared.HeadingRead.the-variants as heading
 use Rattle.story.specs.Headings.{headingOf}
-use Rattle.story.specs.Flows.{titled, piece, stitch, flow, part}
+use Rattle.story.specs.Flows.{titled, stitch, flow, part, stitches}
 use Rattle.story.specs.Endings.{endOf, reachOf, titledReachAt, titledReach}
 use Rattle.story.proofs.Endings.{ends-shift}
 use Rattle.story.proofs.Reaches.{heading-laid, reachEnds, titled-ends}
@@ -111,9 +111,6 @@ module _ (s : List ℕ) where
   stitch-well e p q h = rw (stitch-ends, ← p, q, ending-none (drop e s) (omega (arith, length-drop e s)))
 
 -- 4. A flow
-
-abbrev stitches : Reading
-stitches = repeat (piece stitch)
 
 -- the ending of what follows a flag, unless the flag is refused
 unfoldable pub flagEnds : FlagRead → Ending → Ending

@@ -20,7 +20,7 @@ use Rattle.story.specs.declared.HeadingRead.the-variants as heading
 use Rattle.story.specs.Story.{Name}
 use Rattle.story.specs.Items.{nameIn, itemsIn}
 use Rattle.story.specs.Headings.{headingOf}
-use Rattle.story.specs.Flows.{namesN, namesIn, countedIn, part, titledAt, titledIn, piecesAt, piecesN, piecesIn, stitchIn, stitchesFrom, flowIn}
+use Rattle.story.specs.Flows.{namesN, countedIn, part, titledAt, titledIn, piecesAt, piecesN, piecesIn, stitchIn, stitchesFrom, flowIn}
 
 one-more : (n : ℕ) → 1 + n ≡ suc n
 one-more n = omega arith
@@ -59,29 +59,6 @@ unfolding namesN
 names-n-step zero at k t h p q = absurd (omega arith)
 names-n-step (suc n) at k [] h p q = absurd (omega (arith, name-fits [] k p q))
 names-n-step (suc n) at k (x ∷ t) h p q = rw (name-count (x ∷ t) k p q, sub-one (suc n), one-more k)
-
-names-enough : (n m at : ℕ) (t : List ℕ) → length t ≤ n → length t ≤ m → namesN n at t ≡ namesN m at t
-unfolding namesN
-names-enough zero zero at t p q = refl
-names-enough zero (suc m) at [] p q = refl
-names-enough zero (suc m) at (x ∷ t) p q = absurd (omega arith)
-names-enough (suc n) zero at [] p q = refl
-names-enough (suc n) zero at (x ∷ t) p q = absurd (omega arith)
-names-enough (suc n) (suc m) at [] p q = refl
-names-enough (suc n) (suc m) at (x ∷ t) p q =
-    ap (λ (l : List Name). front at x (x ∷ t) ∷ l) (names-enough n m (at + (1 + x)) (drop x t) (omega (arith, length-drop x t)) (omega (arith, length-drop x t)))
-
-pub names-in-none : (at : ℕ) (t : List ℕ) → length t ≤ 0 → namesIn at t ≡ []
-unfolding namesIn
-names-in-none at t h = names-n-none (length t) at t h
-
--- the first name of a section, then the others
-pub names-in-step : (at k : ℕ) (t : List ℕ) {r : NameRead} → r ≡ nameOf t → r ≡ name.Bytes k → namesIn at t ≡ front at k t ∷ namesIn (at + (1 + k)) (drop (1 + k) t)
-unfolding namesIn
-names-in-step at k t p q =
-    let f = name-fits t k p q in
-    names-n-step (length t) at k t (omega arith) p q
-    ∙ ap (λ (l : List Name). front at k t ∷ l) (names-enough (length t - 1) (length (drop (1 + k) t)) (at + (1 + k)) (drop (1 + k) t) (omega (arith, length-drop (1 + k) t)) (omega arith))
 
 -- 2. Pieces
 

@@ -42,6 +42,7 @@ good-shift k done g = tt
 good-shift k (refuse r) g = tt
 good-shift k (emit role kind p bs t) g = (g .0, good-shift k t (g .1))
 
+-- good where reading ends well
 abbrev Sound : ℕ → ℕ → Trace → Type 0
 Sound lo hi t = ends t ≡ well → Good t
 
@@ -110,6 +111,7 @@ spaced = record {
       (omega arith, spaced-wider (shift 5 (bodyOf b (recordOf left) s)) (omega arith) (omega arith) (spaced-shift 5 0 (length s) (bodyOf b (recordOf left) s) h));
 }
 
+-- at least a head further
 abbrev pub Apart : Record → Record → Type 0
 Apart x y = x .place + 5 ≤ y .place
 

@@ -12,6 +12,7 @@ use Rattle.story.specs.declared.HeadingRead.the-variants as heading
 use Rattle.story.specs.Headings.{headingOf}
 use Rattle.story.specs.Flows.{part}
 
+-- the ending as the pass answers it
 unfoldable pub endOf : Ending → Ended
 endOf well = ended.Well
 endOf (refused r) = ended.Refused r
@@ -21,6 +22,7 @@ unfoldable pub reachOf : Ending → ℕ → Reach
 reachOf well e = reach.To e
 reachOf (refused r) e = reach.Refused r
 
+-- to the end of the nodes, by the heading
 unfoldable pub titledReachAt : HeadingRead → List ℕ → Reach
 titledReachAt (heading.At h) s = reachOf (ends (nodes (part (h .nodes) (h .end) s))) (h .end)
 titledReachAt (heading.Refused r) s = reach.Refused r

@@ -40,6 +40,7 @@ ordered s =
     && not (ltb (startAt s 12) (startAt s 8))
     && not (ltb (length s - 20) (startAt s 12))
 
+-- the sections as the trailer gives them
 abbrev pub sectionsOf : List ℕ → Sections
 sectionsOf s = record { externals = startAt s 4; root = startAt s 8; flows = startAt s 12; end = length s - 20 }
 
@@ -65,10 +66,12 @@ sectionsRead c s =
     (andThen (names (part (c .externals) (c .root) s))
     (andThen (shift (c .root) (nodes (part (c .root) (c .flows) s))) (shift (c .flows) (flows (part (c .flows) (c .end) s)))))
 
+-- the sections, unless reading was refused
 unfoldable pub readEnded : Ending → Opened → Opened
 readEnded well o = o
 readEnded (refused r) o = opened.Refused r
 
+-- reading the sections, unless the trailer was refused
 unfoldable pub readAt : Opened → List ℕ → Opened
 readAt (opened.At c) s = readEnded (ends (sectionsRead c s)) (opened.At c)
 readAt (opened.Refused r) s = opened.Refused r

@@ -37,6 +37,7 @@ unfoldable pub pieceAt : Span → Reading → Reading → Reading
 pieceAt (span.Bytes n) g k s = andThen (shift 4 (g (take n (drop 4 s)))) (shift (4 + n) (k (drop (4 + n) s)))
 pieceAt span.Cut g k s = refuse Short
 
+-- the same, by the length that the bytes have
 abbrev pub piece : Reading → Reading → Reading
 piece g k s = pieceAt (listOf s) g k s
 
@@ -48,9 +49,13 @@ titled k s = named (counted (counted (listed (recordOf 64 Node) k))) s
 unfoldable pub stitch : Reading
 stitch s = titled ending s
 
--- a flow after its length: function flag, then as a stitch, then stitches to the end
+-- stitches to the end
+abbrev pub stitches : Reading
+stitches = repeat (piece stitch)
+
+-- a flow after its length: function flag, then as a stitch, then stitches
 unfoldable pub flow : Reading
-flow s = flagged (titled (repeat (piece stitch))) (titled (repeat (piece stitch))) s
+flow s = flagged (titled stitches) (titled stitches) s
 
 -- flows to the end
 unfoldable pub flows : Reading
@@ -86,6 +91,7 @@ titledAt (heading.At h) at s = record {
 }
 titledAt (heading.Refused r) at s = record { name = record { at = at; bytes = nameIn s }; params = []; marks = []; body = [] }
 
+-- the same, by the heading that the bytes have
 unfoldable pub titledIn : ℕ → List ℕ → Stitch
 titledIn at s = titledAt (headingOf s) at s
 
@@ -94,13 +100,16 @@ unfoldable pub piecesAt : {A : Type 0} → Span → (ℕ → List ℕ → A) →
 piecesAt (span.Bytes n) f k at s = f at (take n (drop 4 s)) ∷ k (at + (4 + n)) (drop (4 + n) s)
 piecesAt span.Cut f k at s = []
 
+-- at most n pieces
 unfoldable pub piecesN : {A : Type 0} → ℕ → (ℕ → List ℕ → A) → ℕ → List ℕ → List A
 piecesN zero f at s = []
 piecesN (suc n) f at s = piecesAt (listOf s) f (piecesN n f) at s
 
+-- all pieces
 unfoldable pub piecesIn : {A : Type 0} → (ℕ → List ℕ → A) → ℕ → List ℕ → List A
 piecesIn f at s = piecesN (length s) f at s
 
+-- a stitch at the place, from its bytes after the length
 unfoldable pub stitchIn : ℕ → List ℕ → Stitch
 stitchIn at s = titledIn (at + 4) s
 
@@ -109,6 +118,7 @@ unfoldable pub stitchesFrom : HeadingRead → ℕ
 stitchesFrom (heading.At h) = h .end
 stitchesFrom (heading.Refused r) = 0
 
+-- a flow at the place, from its bytes after the length
 unfoldable pub flowIn : ℕ → List ℕ → Flow
 flowIn at s =
     let own = titledIn (at + 5) (drop 1 s) in
@@ -123,5 +133,6 @@ flowIn at s =
       stitches = piecesIn stitchIn (at + (5 + rest)) (drop (1 + rest) s);
     }
 
+-- flows at the place and on
 unfoldable pub flowsIn : ℕ → List ℕ → List Flow
 flowsIn at s = piecesIn flowIn at s

@@ -41,6 +41,7 @@ exprSorts = plain ∷ variable ∷ plain ∷ plain ∷ plain ∷ call ∷ plain 
 abbrev pub argumentSorts : List Kind
 argumentSorts = plain ∷ plain ∷ argument ∷ []
 
+-- THE SORT of a record by its role, its kind and its payload
 unfoldable pub sortOf : Role → ℕ → List ℕ → Kind
 sortOf Node kind payload = getD (nodeSorts payload) kind plain
 sortOf Branch kind payload = getD (nodeSorts payload) kind plain
@@ -53,6 +54,7 @@ sortOf Unvisited kind payload = plain
 abbrev pub flag : List ℕ → Bool
 flag s = eqb (getD s 0 0) 1
 
+-- the same sort
 abbrev pub sameKind : Kind → Kind → Bool
 sameKind a b = eqb (code a) (code b)
 
@@ -64,6 +66,7 @@ nameStart sort = pick (sameKind sort temp || sameKind sort choice) 1 0
 unfoldable pub nameless : Kind → List ℕ → Bool
 nameless sort payload = sameKind sort plain || (sameKind sort choice && not (flag payload))
 
+-- the name, or nothing
 unfoldable pub recordName : Kind → List ℕ → Bytes
 recordName sort payload = pick (nameless sort payload) [] (nameIn (drop (nameStart sort) payload))
 
@@ -89,6 +92,7 @@ unfoldable pub endingAt : Head → (Bool → List ℕ → Bool) → Bool → Lis
 endingAt (head.Piece kind n) k sofar s = k (pick (eqb kind 1) sofar (leaving kind)) (drop (5 + n) s)
 endingAt head.Cut k sofar s = sofar
 
+-- the same, over at most n records
 unfoldable pub endingN : ℕ → Bool → List ℕ → Bool
 endingN zero sofar s = sofar
 endingN (suc n) sofar s = endingAt (headOf s) (endingN n) sofar s
@@ -97,11 +101,12 @@ endingN (suc n) sofar s = endingAt (headOf s) (endingN n) sofar s
 unfoldable pub endWithDivert : List ℕ → Bool
 endWithDivert s = endingN (length s) false s
 
--- the bytes of the list at the front, and what follows it
+-- the bytes of the list at the front
 unfoldable pub spanned : Span → List ℕ → List ℕ
 spanned (span.Bytes n) s = take n (drop 4 s)
 spanned span.Cut s = []
 
+-- what follows the list at the front
 unfoldable pub past : Span → List ℕ → List ℕ
 past (span.Bytes n) s = drop (4 + n) s
 past span.Cut s = []
@@ -118,6 +123,7 @@ choiceBody payload = let rest = past (listOf (unlabelled payload)) (unlabelled p
 unfoldable pub leaves : Kind → List ℕ → Bool
 leaves sort payload = sameKind sort choice && endWithDivert (choiceBody payload)
 
+-- what a record of the sort is to the rules
 unfoldable pub whatOf : Role → Kind → List ℕ → What
 whatOf role sort payload = record {
   kind = sort;
@@ -127,6 +133,7 @@ whatOf role sort payload = record {
   leaves = leaves sort payload;
 }
 
+-- a record of the sort as an item
 unfoldable pub itemAs : Kind → Record → Item
 itemAs sort r = record {
   place = r .place;
@@ -134,6 +141,7 @@ itemAs sort r = record {
   what = whatOf (r .role) sort (r .payload);
 }
 
+-- a record as an item
 unfoldable pub itemOf : Record → Item
 itemOf r = itemAs (sortOf (r .role) (r .kind) (r .payload)) r
 
@@ -142,5 +150,6 @@ unfoldable pub itemsAs : Ending → List Record → List Item
 itemsAs well rs = map itemOf rs
 itemsAs (refused r) rs = []
 
+-- the same, of the bytes
 unfoldable pub itemsIn : ℕ → List ℕ → List Item
 itemsIn b s = itemsAs (ends (nodes s)) (met b (nodes s))

@@ -1,3 +1,4 @@
+-- The definitions on story files.
 pub mod Story
 pub mod Items
 pub mod Headings

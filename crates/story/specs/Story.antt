@@ -1,8 +1,8 @@
 -- A readable story, as its reader gives it: names, and for each body one item for each record, in file order, at all depths.
 -- A record has at most one name. `What` has no places, so that two bodies of equal bytes are equal lists of `What`.
 -- Assumes nothing.
-use mathlib.Core.Bool.{Bool, true, false}
-use mathlib.Core.List.{List, [], _∷_, map}
+use mathlib.Core.Bool.{Bool}
+use mathlib.Core.List.{List, map}
 use Prim.Native.Nat.{ℕ}
 use lib.Dec.{eqb}
 use Rattle.names.specs.Words.{Bytes}
@@ -20,6 +20,7 @@ pub record Name : Type 0 where
 pub data Kind : Type 0 where
   plain temp divert tunnel thread call variable argument choice gather parameter stitchName flowStart : Kind
 
+-- a number for each kind
 abbrev pub code : Kind → ℕ
 code plain = 0
 code temp = 1
@@ -57,6 +58,10 @@ pub record Item : Type 0 where
   pub named : ℕ
   pub what : What
 
+-- the name of a record
+abbrev pub ownName : Item → Name
+ownName i = record { at = i .named; bytes = i .what .name }
+
 -- `marks` are the divert parameters
 pub record Stitch : Type 0 where
   pub name : Name
@@ -74,15 +79,17 @@ pub record Flow : Type 0 where
   pub body : List Item
   pub stitches : List Stitch
 
+-- a story: its globals, externals, root and flows
 pub record Story : Type 0 where
   pub globals : List Name
   pub externals : List Name
   pub root : List Item
   pub flows : List Flow
 
--- the bytes of names, and what items say, without their places
+-- the bytes of names, without their places
 abbrev pub words : List Name → List Bytes
 words l = map (λ (n : Name). n .bytes) l
 
+-- what the items are, without their places
 abbrev pub whats : List Item → List What
 whats l = map (λ (i : Item). i .what) l

@@ -3,8 +3,8 @@ ghost use mathlib.Core.Path.{_≡_};
 ghost use Prim.Native.Nat.{_<_, _^_};
 ghost use lib.ListN.{length};
 ghost use Rattle.records.specs.Trace.{ends};
-ghost use Rattle.records.specs.Grammar.{repeat, nodes};
-ghost use Rattle.story.specs.Flows.{names, titled, stitch, flow, flows, piece};
+ghost use Rattle.records.specs.Grammar.{nodes};
+ghost use Rattle.story.specs.Flows.{names, titled, stitch, flow, flows, stitches};
 ghost use Rattle.story.specs.Endings.{endOf, titledReach};
 use crate::Ended;
 use crate::HeadingRead;
@@ -93,7 +93,7 @@ fn read_stitch(s: &[u8]) -> Ended
 // Stitches to the end.
 fn read_stitches(s: &[u8]) -> Ended
     requires { ⌜ length (now s) < 2 ^ 32 ⌝ }
-    ensures { λ r. ⌜ r ≡ endOf (ends (repeat (piece stitch) (now (s .entry)))) ⌝ }
+    ensures { λ r. ⌜ r ≡ endOf (ends (stitches (now (s .entry)))) ⌝ }
 {
     let mut t = s;
     while 0 < t.len() {
@@ -113,7 +113,7 @@ fn read_stitches(s: &[u8]) -> Ended
 // A flow after its flag.
 fn read_unflagged(s: &[u8]) -> Ended
     requires { ⌜ length (now s) < 2 ^ 32 ⌝ }
-    ensures { λ r. ⌜ r ≡ endOf (ends (titled (repeat (piece stitch)) (now (s .entry)))) ⌝ }
+    ensures { λ r. ⌜ r ≡ endOf (ends (titled stitches (now (s .entry)))) ⌝ }
 {
     let answer = read_titled(s);
     match answer {

@@ -48,6 +48,7 @@ pub struct Heading {
     pub end: usize,
 }
 
+// The heading, or the refusal.
 pub enum HeadingRead {
     At(Heading),
     Refused(Refusal),

@@ -1,22 +1,18 @@
 -- How a target fits a spelling q.p: by what stands before .p in it, or within p. Assumes nothing.
-use mathlib.Core.Path.{_≡_, refl, sym, _∙_, ap}
-use mathlib.Core.Bool.{Bool, true, false, _&&_, _||_}
-use mathlib.Core.List.{List, [], _∷_, _++_, append-assoc, append-cancel-right}
-use mathlib.Core.Logic.{_⊎_, inl, inr}
-use Prim.Native.Nat.{ℕ, suc, _+_, _-_, _≤_, _<_}
+use mathlib.Core.Path.{_≡_, sym, _∙_, ap}
+use mathlib.Core.Bool.{Bool, true, false}
+use mathlib.Core.List.{[], _∷_, _++_, append-assoc, append-cancel-right}
+use Prim.Native.Nat.{suc, _-_, _≤_, _<_}
 use native.Mathlib.Omega.{arith}
-use native.Mathlib.Numerals.{add-one}
 use native.Mathlib.Decide.{decLe}
 use lib.Dec.{T}
 use lib.ListN.{length, getD, take, drop, length-append, length-drop}
 use lib.Seq.{drop-cons, take-all, take-at}
-use borrow.Author.Tests.{eq-eqb, ne-eqb}
-use Rattle.fields.specs.Bytes.{pick}
+use borrow.Author.Tests.{ne-eqb}
 use Rattle.names.specs.Words.{Bytes, same, ends}
-use Rattle.names.proofs.Bools.{bool-ext, is-false, or-cases}
+use Rattle.names.proofs.Bools.{bool-ext, is-false}
 use Rattle.names.proofs.Words.{same-eq, eq-same, same-lengths, ends-split, ends-join, ends-after, ends-short, ends-last, ends-at}
 use Rattle.symbols.specs.declared.Fit.{Fit}
-use Rattle.symbols.specs.declared.Fit.the-variants.{Exact, Ending, Differs}
 use Rattle.symbols.specs.Fits.{fitOf, answers, endFit}
 
 -- 1. An ending with its dot

@@ -1,11 +1,10 @@
 -- The labels of a body, item by item. Assumes nothing.
-use mathlib.Core.Path.{_≡_, refl, sym, _∙_, ap, subst}
+use mathlib.Core.Path.{_≡_, refl, _∙_}
 use mathlib.Core.Bool.{Bool, true, false}
-use mathlib.Core.List.{List, [], _∷_, _++_, append-nil, List·Memᴰ, List·Memᴰ·head, List·Memᴰ·tail, List·Memᴰ·not-nil}
-use Prim.Native.Nat.{ℕ, zero, suc, _+_, _-_, _≤_, _<_}
+use mathlib.Core.List.{List, [], _∷_, _++_, append-nil, List·Memᴰ, List·Memᴰ·head, List·Memᴰ·tail}
+use Prim.Native.Nat.{ℕ, zero, suc, _+_, _-_, _≤_}
 use native.Mathlib.Omega.{arith}
-use lib.ListN.{length, take, drop, length-take, length-drop, drop-of-length-le}
-use Rattle.names.specs.Words.{only, each}
+use lib.ListN.{length, drop, length-take, length-drop, drop-of-length-le}
 use Rattle.story.specs.Story.{Item}
 use Rattle.story.specs.Items.{itemOf, itemAs}
 use Rattle.story.specs.Flows.{part}
@@ -13,8 +12,7 @@ use Rattle.story.proofs.Places.{item-within}
 use Rattle.story.proofs.Named.{named-near}
 use Rattle.bodies.specs.Records.{recordFrom, itemFrom}
 use Rattle.bodies.specs.Bodies.{bodyIn, Range}
-use Rattle.symbols.specs.declared.Places.{Places}
-use Rattle.symbols.specs.Numbers.{St, st, store, storeAll}
+use Rattle.symbols.specs.Numbers.{St, store, storeAll}
 use Rattle.symbols.specs.Placed.{labelsPlaced}
 
 -- 1. One item

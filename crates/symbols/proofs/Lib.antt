@@ -1,3 +1,4 @@
+-- The laws on the index.
 pub mod Fits
 pub mod Labels
 pub mod Named

@@ -1,5 +1,5 @@
 -- The own names of the entries are those of the story, in file order: they rise, and so there are few. Assumes nothing.
-use mathlib.Core.Path.{_≡_, refl, sym, _∙_, ap}
+use mathlib.Core.Path.{_≡_, refl, _∙_, ap}
 use mathlib.Core.Bool.{Bool, true, false}
 use mathlib.Core.List.{List, [], _∷_, _++_, map, List·Memᴰ, List·Memᴰ·head, List·Memᴰ·tail}
 use mathlib.Core.Option.{Option, none, some}
@@ -8,12 +8,12 @@ use native.Mathlib.Omega.{arith}
 use lib.ListN.{length, length-map}
 use Rattle.names.specs.Words.{Sorted, only, each}
 use Rattle.story.specs.declared.Sections.{Sections}
-use Rattle.story.specs.Story.{Name, Item, Stitch, Flow, Story}
+use Rattle.story.specs.Story.{Name, Item, Stitch, Flow, Story, ownName}
 use Rattle.story.specs.File.{storyIn}
 use Rattle.story.proofs.Readable.{Readable}
 use Rattle.story.proofs.Places.{NameBefore}
-use Rattle.story.proofs.Owned.{Own, labelName, labelNames, stitchNames, flowNames, ownNames, story-own}
-use Rattle.symbols.specs.Index.{Entry, alone, nameOf, labelled, prefix, stitchEntries, flowEntries, entries}
+use Rattle.story.proofs.Owned.{Own, labelNames, stitchNames, flowNames, ownNames, story-own}
+use Rattle.symbols.specs.Index.{Entry, alone, labelled, prefix, stitchEntries, flowEntries, entries}
 use Rattle.symbols.specs.Numbers.{st, storeAll}
 use Rattle.symbols.specs.Placed.{placed, indexOf}
 use Rattle.symbols.proofs.Stored.{store-overlay}
@@ -21,6 +21,7 @@ use Rattle.symbols.proofs.Placed.{placed-length}
 
 -- 1. The own names of entries
 
+-- the own names of entries
 abbrev pub owners : List Entry → List Name
 owners es = map (λ (e : Entry). e .own) es
 
@@ -42,7 +43,7 @@ owners-only false e = refl
 
 owners-labels : (f t : Option Name) (body : List Item) → owners (labelled f t body) ≡ labelNames body
 unfolding labelled labelNames
-owners-labels f t body = owners-each _ _ (λ i. owners-only (i .what .labels) (record { flow = f; stitch = t; own = nameOf i })) body
+owners-labels f t body = owners-each _ _ (λ i. owners-only (i .what .labels) (record { flow = f; stitch = t; own = ownName i })) body
 
 owners-stitch : (f : Flow) (t : Stitch) → owners (stitchEntries f t) ≡ stitchNames t
 unfolding stitchEntries

@@ -1,14 +1,14 @@
 -- The entries of a story as places: part by part they are those of the definition. Assumes nothing.
-use mathlib.Core.Path.{_≡_, refl, sym, _∙_, ap}
+use mathlib.Core.Path.{_≡_, refl, _∙_, ap}
 use mathlib.Core.Bool.{Bool, true, false}
 use mathlib.Core.List.{List, [], _∷_, _++_, map}
 use mathlib.Core.Option.{Option, none, some}
 use Prim.Native.Nat.{ℕ}
 use lib.ListN.{length, length-map}
 use Rattle.names.specs.Words.{Bytes, only, each}
-use Rattle.story.specs.Story.{Name, Item, Stitch, Flow, Story}
+use Rattle.story.specs.Story.{Name, Item, Stitch, Flow, Story, ownName}
 use Rattle.symbols.specs.declared.Places.{Places}
-use Rattle.symbols.specs.Index.{Entry, alone, nameOf, labelled, prefix, stitchEntries, flowEntries, entries}
+use Rattle.symbols.specs.Index.{Entry, alone, labelled, prefix, stitchEntries, flowEntries, entries}
 use Rattle.symbols.specs.Numbers.{absent, numberOf, placesOf, St, store, storeAll}
 use Rattle.symbols.specs.Placed.{placed, namesPlaced, labelsPlaced, prefixNumber, stitchPlaced}
 use Rattle.symbols.proofs.Named.{aloneAt}
@@ -47,19 +47,19 @@ unfolding placed namesPlaced
 first-placed e ns = refl
 
 module _ (f t : Option Name) where
-  label-placed : (i : Item) → placed (only (i .what .labels) (record { flow = f; stitch = t; own = nameOf i }))
+  label-placed : (i : Item) → placed (only (i .what .labels) (record { flow = f; stitch = t; own = ownName i }))
       ≡ only (i .what .labels) (record { flow = numberOf f; stitch = numberOf t; own = i .named })
   unfolding placed
   label-placed i = by-label (i .what .labels)
     where
-      by-label : (b : Bool) → placed (only b (record { flow = f; stitch = t; own = nameOf i })) ≡ only b (record { flow = numberOf f; stitch = numberOf t; own = i .named })
+      by-label : (b : Bool) → placed (only b (record { flow = f; stitch = t; own = ownName i })) ≡ only b (record { flow = numberOf f; stitch = numberOf t; own = i .named })
       by-label true = refl
       by-label false = refl
 
   pub labels-placed : (body : List Item) → placed (labelled f t body) ≡ labelsPlaced (numberOf f) (numberOf t) body
   unfolding labelled labelsPlaced
   labels-placed body =
-      placed-each (λ (i : Item). only (i .what .labels) (record { flow = f; stitch = t; own = nameOf i })) body
+      placed-each (λ (i : Item). only (i .what .labels) (record { flow = f; stitch = t; own = ownName i })) body
       ∙ each-same _ _ label-placed body
 
 pub stitch-placed : (f : Flow) (t : Stitch) → placed (stitchEntries f t) ≡ stitchPlaced (f .name .at) t

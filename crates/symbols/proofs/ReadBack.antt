@@ -1,23 +1,22 @@
 -- Each number of the index is a place where a name stands, or none; and the spellings read back are those of the entries. Assumes nothing.
-use mathlib.Core.Path.{_≡_, refl, sym, _∙_, ap, subst}
-use mathlib.Core.Bool.{Bool, true, false}
-use mathlib.Core.List.{List, [], _∷_, _++_, map, List·Memᴰ, List·Memᴰ·head, List·Memᴰ·tail, List·Memᴰ·cases-cons, Memᴰ·append-left, Memᴰ·append-right, Memᴰ·of-map}
+use mathlib.Core.Path.{_≡_, refl, sym, ap, subst}
+use mathlib.Core.List.{List, [], _∷_, _++_, map, List·Memᴰ·head, List·Memᴰ·tail, List·Memᴰ·cases-cons, Memᴰ·append-left, Memᴰ·append-right, Memᴰ·of-map}
 use mathlib.Core.Logic.{⊎-elim}
 use mathlib.Core.Option.{Option, none, some}
-use Prim.Native.Nat.{ℕ, suc, _+_, _≤_, _<_}
+use Prim.Native.Nat.{ℕ, _≤_}
 use native.Mathlib.Omega.{arith}
 use lib.ListN.{length, take, drop}
 use borrow.Author.Tests.{ne-eqb}
-use Rattle.names.specs.Words.{Bytes, only, each}
+use Rattle.names.specs.Words.{Bytes, each}
 use Rattle.names.proofs.Lists.{Every, every-append, every-each, of-only, in-each, in-only}
 use Rattle.records.specs.Window.{overlay}
 use Rattle.story.specs.declared.Sections.{Sections}
-use Rattle.story.specs.Story.{Name, Item, Stitch, Flow, Story}
+use Rattle.story.specs.Story.{Name, Item, Stitch, Flow, Story, ownName}
 use Rattle.story.specs.File.{storyIn}
 use Rattle.story.proofs.Readable.{Readable}
-use Rattle.story.proofs.Owned.{Own, labelName, labelNames, stitchNames, flowNames, ownNames, story-own}
+use Rattle.story.proofs.Owned.{labelNames, stitchNames, flowNames, ownNames, story-own}
 use Rattle.symbols.specs.declared.Places.{Places}
-use Rattle.symbols.specs.Index.{Entry, dotted, spelling, alone, nameOf, labelled, prefix, stitchEntries, flowEntries, entries, spellings}
+use Rattle.symbols.specs.Index.{Entry, dotted, spelling, alone, labelled, prefix, stitchEntries, flowEntries, entries, spellings}
 use Rattle.symbols.specs.Numbers.{absent, numberOf, placesOf, numbers}
 use Rattle.symbols.specs.Placed.{placed, indexOf}
 use Rattle.symbols.specs.Stands.{NameStands, PartStands, EntryStands}
@@ -43,7 +42,7 @@ module _ (file : List ℕ) (end : ℕ) where
   unfolding labelled labelNames
   labels-stand f t body p q h = every-each (EntryStands file end) _ body (λ i m e k.
       let r = of-only (i .what .labels) k in
-      subst (EntryStands file end) (sym (r .1)) (record { flow = p; stitch = q; own = h (nameOf i) (in-each _ m (in-only (i .what .labels) (r .0))) }))
+      subst (EntryStands file end) (sym (r .1)) (record { flow = p; stitch = q; own = h (ownName i) (in-each _ m (in-only (i .what .labels) (r .0))) }))
 
   stitch-stands : (f : Flow) (t : Stitch) → Good (f .name) → Every Good (stitchNames t) → Every (EntryStands file end) (stitchEntries f t)
   unfolding stitchEntries

@@ -1,18 +1,17 @@
 -- Searching the index's entries one by one: what is left of it, and what was found. Assumes nothing.
 use mathlib.Core.Path.{_≡_, refl, sym, _∙_, ap}
 use mathlib.Core.Bool.{Bool, true, false, _||_}
-use mathlib.Core.List.{List, [], _∷_, _++_, map}
+use mathlib.Core.List.{List, [], _∷_, map}
 use Prim.Native.Nat.{ℕ, zero, suc, _+_, _-_, _≤_, _<_}
 use native.Mathlib.Omega.{arith}
 use native.Mathlib.Nat.{sub-zero}
 use native.Mathlib.Numerals.{sub-one}
 use lib.ListN.{length, getD, take, drop}
-use lib.Seq.{take-all, take-nil}
+use lib.Seq.{take-nil}
 use Rattle.fields.specs.Bytes.{pick}
 use Rattle.fields.proofs.Laws.{to-end}
 use Rattle.names.specs.Words.{Bytes, same, any, ends}
-use Rattle.names.proofs.Words.{same-eq, ends-short, same-lengths}
-use Rattle.names.proofs.Bools.{is-false}
+use Rattle.names.proofs.Words.{same-eq, ends-short}
 use Rattle.symbols.specs.declared.Places.{Places}
 use Rattle.symbols.specs.declared.Fit.{Fit}
 use Rattle.symbols.specs.declared.Fit.the-variants.{Exact, Ending, Differs}
@@ -23,6 +22,7 @@ use Rattle.symbols.specs.Rows.{rows, spellingIn, spellingsIn, firstOf, w
 
 -- 1. The first entry of some numbers, and the others
 
+-- the first three numbers
 abbrev pub rowOf : List ℕ → Places
 rowOf s = record { flow = getD s 0 0; stitch = getD s 1 0; own = getD s 2 0 }
 
@@ -59,6 +59,7 @@ module _ (file s : List ℕ) (n : ℕ) where
 
 -- 2. What is left of the search
 
+-- the entries that are left decide, those before number k having been passed
 pub record Left (file index rest target : List ℕ) (count k : ℕ) (exact ending : Bool) : Type 0 where
   pub within : k ≤ count
   pub left : firstOf (sought exact ending target) 0 (spellingsIn file count index) ≡ firstOf (sought exact ending target) k (spellingsIn file (count - k) rest)

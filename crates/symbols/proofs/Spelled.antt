@@ -4,10 +4,10 @@ use mathlib.Core.List.{List, [], _∷_, _++_, map, List·Memᴰ·head, List·Mem
 use mathlib.Core.Logic.{⊎-elim, _↔_}
 use mathlib.Core.Option.{Option, none, some}
 use lib.Dec.{T}
-use Rattle.names.specs.Words.{Bytes, only, each, _∈_}
+use Rattle.names.specs.Words.{Bytes, each, _∈_}
 use Rattle.names.proofs.Lists.{in-only, of-only, in-each, Every, every-append, every-each}
-use Rattle.story.specs.Story.{Name, What, Item, Stitch, Flow, Story, words, whats}
-use Rattle.symbols.specs.Index.{Entry, dotted, spelling, alone, nameOf, labelled, prefix, stitchEntries, flowEntries, entries, spellings}
+use Rattle.story.specs.Story.{Name, What, Item, Stitch, Flow, Story, words, ownName}
+use Rattle.symbols.specs.Index.{Entry, dotted, spelling, alone, labelled, prefix, stitchEntries, flowEntries, entries, spellings}
 use Rattle.symbols.specs.Spelled.{LabelIn, Spelled, global, root-label, flow, flow-parameter, flow-label, nameless-flow-label, stitch, stitch-parameter, stitch-label}
 
 -- 1. every spelling is stated
@@ -66,7 +66,7 @@ module _ (s : Story) where
       let r = Memᴰ·of-map (λ (i : Item). i .what) body (l .1) in
       let i : Item = r .0 in
       let named : n ≡ i .what .name = l .3 ∙ ap (λ (w : What). w .name) (sym (r .2)) in (
-        record { flow = f; stitch = t; own = nameOf i },
+        record { flow = f; stitch = t; own = ownName i },
         in-each _ (r .1) (in-only (i .what .labels) (subst (λ (w : What). T (w .labels)) (sym (r .2)) (l .2))),
         ap (λ (b : Bytes). dotted f (dotted t b)) named,
       )

@@ -1,15 +1,12 @@
 -- Entries stored one after the other: what the index holds then. Assumes nothing.
-use mathlib.Core.Path.{_≡_, refl, sym, _∙_, ap}
-use mathlib.Core.Bool.{true, false}
+use mathlib.Core.Path.{_≡_, refl, sym, _∙_}
 use mathlib.Core.List.{List, [], _∷_, _++_, append-assoc, append-nil}
-use Prim.Native.Nat.{ℕ, zero, suc, _+_, _-_, _*_, _/_, _≤_, _<_}
+use Prim.Native.Nat.{ℕ, suc, _+_, _*_, _/_, _≤_, _<_}
 use native.Mathlib.Nat.{add-zero, zero-add}
 use native.Mathlib.Omega.{arith}
-use lib.Dec.{ltb}
-use lib.ListN.{length, take, drop, take-append-drop, length-append, length-take, length-drop, length-set}
+use lib.ListN.{length, take, drop, take-append-drop, length-append, length-take, length-drop}
 use lib.Seq.{take-at, drop-append-add, drop-drop, sets-eq}
 use borrow.Author.Tests.{lt-ltb, le-ltb}
-use Rattle.fields.specs.Bytes.{pick}
 use Rattle.records.specs.Window.{overlay}
 use Rattle.symbols.specs.declared.Places.{Places}
 use Rattle.symbols.specs.Numbers.{numbers, St, st, noted, store, storeAll}
@@ -55,16 +52,6 @@ module _ {index₀ : List ℕ} {n : ℕ} {all : List Places} {index : List ℕ} 
   pub storing-many : (ps : List Places) {more : List Places} {index′ : List ℕ} {count′ : ℕ} → rest ≡ ps ++ more
       → st index′ count′ ≡ storeAll (st index count) ps → Storing index₀ n all index′ count′ more
   storing-many ps {more} e f = record { stored = s .stored ∙ rw (e, store-append ps more (st index count), f) }
-
-pub length-numbers : (ps : List Places) → length (numbers ps) ≡ 3 * length ps
-unfolding numbers
-length-numbers [] = refl
-length-numbers (p ∷ ps) = omega (arith, length-numbers ps)
-
-pub numbers-append : (ps qs : List Places) → numbers (ps ++ qs) ≡ numbers ps ++ numbers qs
-unfolding numbers
-numbers-append [] qs = refl
-numbers-append (p ∷ ps) qs = rw (numbers-append ps qs)
 
 -- numbers from a place on, and the rest as it was
 abbrev pub laid : ℕ → List ℕ → List ℕ → List ℕ

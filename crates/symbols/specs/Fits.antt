@@ -6,6 +6,7 @@ use Rattle.names.specs.Words.{Bytes, same, ends}
 use Rattle.symbols.specs.declared.Fit.{Fit}
 use Rattle.symbols.specs.declared.Fit.the-variants.{Exact, Ending, Differs}
 
+-- how the target fits the spelling
 abbrev pub fitOf : Bytes → Bytes → Fit
 fitOf target spelling = pick (same target spelling) Exact (pick (ends (46 ∷ target) spelling) Ending Differs)
 

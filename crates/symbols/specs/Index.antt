@@ -1,12 +1,8 @@
 -- The index: its entries in order, and how each is spelled. Assumes nothing.
-use mathlib.Core.Path.{_≡_}
-use mathlib.Core.Bool.{Bool, true, false}
 use mathlib.Core.List.{List, [], _∷_, _++_, map}
 use mathlib.Core.Option.{Option, none, some}
-use Prim.Native.Nat.{ℕ}
-use lib.Dec.{T}
-use Rattle.names.specs.Words.{Bytes, only, each, _∈_}
-use Rattle.story.specs.Story.{Name, What, Item, Stitch, Flow, Story, whats}
+use Rattle.names.specs.Words.{Bytes, only, each}
+use Rattle.story.specs.Story.{Name, Item, Stitch, Flow, Story, ownName}
 
 -- an entry: flow, stitch, own name, where `none` is written 4,294,967,295 and a name as the place of its count byte
 pub record Entry : Type 0 where
@@ -27,13 +23,9 @@ spelling e = dotted (e .flow) (dotted (e .stitch) (e .own .bytes))
 abbrev pub alone : Name → Entry
 alone n = record { flow = none; stitch = none; own = n }
 
--- the name of an item
-abbrev pub nameOf : Item → Name
-nameOf i = record { at = i .named; bytes = i .what .name }
-
 -- the labels of a body, in file order, at all depths, with the flow and the stitch given
 unfoldable pub labelled : Option Name → Option Name → List Item → List Entry
-labelled f t body = each (λ (i : Item). only (i .what .labels) (record { flow = f; stitch = t; own = nameOf i })) body
+labelled f t body = each (λ (i : Item). only (i .what .labels) (record { flow = f; stitch = t; own = ownName i })) body
 
 -- a flow with the empty name puts no prefix on its own labels
 abbrev pub prefix : Bytes → Name → Option Name

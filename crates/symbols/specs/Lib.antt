@@ -1,3 +1,4 @@
+-- The definitions on the index.
 pub mod Index
 pub mod Spelled
 pub mod Numbers

@@ -1,5 +1,5 @@
 -- The index as numbers: three an entry, and how entries are stored in it. Assumes nothing.
-use mathlib.Core.List.{List, [], _∷_, map}
+use mathlib.Core.List.{List, [], _∷_}
 use mathlib.Core.Option.{Option, none, some}
 use Prim.Native.Nat.{ℕ, _+_, _*_, _/_}
 use lib.ListN.{length, set}
@@ -13,6 +13,7 @@ use Rattle.symbols.specs.Index.{Entry}
 abbrev pub absent : ℕ
 absent = 4294967295
 
+-- the place of a name, or the number for none
 abbrev pub numberOf : Option Name → ℕ
 numberOf none = absent
 numberOf (some n) = n .at
@@ -31,6 +32,7 @@ pub record St : Type 0 where
   pub index : List ℕ
   pub count : ℕ
 
+-- the two together
 abbrev pub st : List ℕ → ℕ → St
 st index count = record { index = index; count = count }
 

@@ -8,6 +8,7 @@ use Rattle.symbols.specs.declared.Places.{Places}
 use Rattle.symbols.specs.Index.{Entry, alone, entries}
 use Rattle.symbols.specs.Numbers.{absent, placesOf, numbers}
 
+-- entries as places of names
 unfoldable pub placed : List Entry → List Places
 placed es = map placesOf es
 

@@ -3,7 +3,7 @@ use mathlib.Core.Path.{_≡_}
 use mathlib.Core.List.{List, [], _∷_, _++_}
 use lib.Dec.{T}
 use Rattle.names.specs.Words.{Bytes, _∈_}
-use Rattle.story.specs.Story.{Name, What, Item, Stitch, Flow, Story, words, whats}
+use Rattle.story.specs.Story.{What, Item, Stitch, Flow, Story, words, whats}
 
 -- the word is a label of the body
 abbrev pub LabelIn : List Item → Bytes → Type 0

@@ -6,8 +6,7 @@ ghost use lib.ListN.{length, drop};
 ghost use Rattle.names.specs.Words.{each};
 ghost use Rattle.names.specs.Counted.{nameAt};
 ghost use Rattle.records.specs.Trace.{well, ends};
-ghost use Rattle.records.specs.Grammar.{repeat};
-ghost use Rattle.story.specs.Flows.{namesN, countedIn, part, piece, stitch, flows, piecesIn, stitchIn, flowsIn};
+ghost use Rattle.story.specs.Flows.{namesN, countedIn, part, stitch, flows, piecesIn, stitchIn, flowsIn, stitches};
 ghost use Rattle.story.specs.File.{readOf, storyIn};
 ghost use Rattle.searches.specs.Views.{viewedStitch, viewedFlow};
 ghost use Rattle.bodies.specs.Records.{itemFrom};
@@ -189,7 +188,7 @@ fn put_stitches(
     batch: &mut [u32],
 ) -> usize
     requires { ⌜ Range (now file) from end ⌝ }
-    requires { ⌜ ends (repeat (piece stitch) (part from end (now file))) ≡ well ⌝ }
+    requires { ⌜ ends (stitches (part from end (now file))) ≡ well ⌝ }
     requires { ⌜ 2 ≤ length (now batch) ⌝ }
     ensures { λ r. ⌜ st (now (index .exit)) r ≡ storeAll (st (now (index .entry)) n) (each (stitchPlaced flow) (piecesIn stitchIn from (part from end (now (file .entry))))) ⌝ }
 {
@@ -218,7 +217,7 @@ fn prefix_number(file: &[u8], name: usize) -> u32
 // Stores a flow: its name and its parameters alone, its labels with its name, its stitches.
 fn put_flow(file: &[u8], v: FlowView, index: &mut [u32], n: usize, batch: &mut [u32]) -> usize
     requires { ⌜ (v .name < v .params) × (v .params < v .from) × Range (now file) (v .from) (v .to) × Range (now file) (v .stitches) (v .end) ⌝ }
-    requires { ⌜ ends (repeat (piece stitch) (part (v .stitches) (v .end) (now file))) ≡ well ⌝ }
+    requires { ⌜ ends (stitches (part (v .stitches) (v .end) (now file))) ≡ well ⌝ }
     requires { ⌜ 2 ≤ length (now batch) ⌝ }
     ensures { λ r. ⌜ st (now (index .exit)) r ≡ storeAll (st (now (index .entry)) n) (placed (flowEntries (viewedFlow (now (file .entry)) v))) ⌝ }
 {

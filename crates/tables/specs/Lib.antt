@@ -1,3 +1,4 @@
+-- The definitions on tables.
 pub mod Hashes
 pub mod Tables
 pub mod Functions

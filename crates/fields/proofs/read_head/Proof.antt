@@ -34,7 +34,11 @@ shared-slice-read-t12 : tie.Need-shared-slice-read-t12
 shared-slice-read-t12 c = search needs
 
 returns-3 : tie.Need-returns-3
-returns-3 c = rw (c .before .before .word .ensures) (sym (head-whole (c .before .before .before .before .before .before .before .before .before .args .s .now) (omega (arith, c .before .before .word .ensures, c .before .before .before .before .before .before .before .if1 .left, c .before .if2 .left))))
+returns-3 c =
+    let start = c .before .before .before .before .before .before .before .before .before in
+    let if1 = c .before .before .before .before .before .before .before .if1 in
+    let word = c .before .before .word in
+    rw (word .ensures) (sym (head-whole (start .args .s .now) (omega (arith, word .ensures, if1 .left, c .before .if2 .left))))
 
 pub read-head-spec : {M : Type 1} → statement M
 read-head-spec =

@@ -1,5 +1,5 @@
 -- `lookups::lookup` meets its contract: refused, refused for the index, or looked up in the index just written. Assumes nothing.
-use mathlib.Core.Path.{_≡_, sym, _∙_}
+use mathlib.Core.Path.{sym, _∙_}
 use native.Mathlib.Omega.{arith}
 use Rattle.story.proofs.Readable.{readable}
 use Rattle.lookups.proofs.Answers.{looked-refused, looked-short, looked-up}
@@ -20,7 +20,11 @@ mul-if1 : tie.Need-mul-if1
 mul-if1 c = let g = readable (c .before .before .before .before .before .before .before .before .args .file .now) (c .before .before .opened2 .given .0 .0) (c .before .before .before .before .read .ensures) (c .before .before .opened2 .given .1) .order in omega arith
 
 returns : tie.Need-returns
-returns c = looked-short (c .before .before .before .before .before .before .before .before .before .args .file .now) (c .before .before .before .before .before .before .before .before .before .args .index .now) (c .before .before .before .before .before .before .before .before .before .args .target .now) (c .before .before .before .before .before .read .ensures) (c .before .before .before .opened2 .given .0 .0) (c .before .before .before .opened2 .given .1) (c .if1 .taken)
+returns c =
+    let start = c .before .before .before .before .before .before .before .before .before in
+    let read = c .before .before .before .before .before .read in
+    let opened2 = c .before .before .before .opened2 in
+    looked-short (start .args .file .now) (start .args .index .now) (start .args .target .now) (read .ensures) (opened2 .given .0 .0) (opened2 .given .1) (c .if1 .taken)
 
 slice-aggregate-write-index : tie.Need-slice-aggregate-write-index
 slice-aggregate-write-index c = search needs
@@ -29,16 +33,29 @@ write-index-requires : tie.Need-write-index-requires
 write-index-requires c κs = (sym (c .before .before .before .before .before .before .before .read .ensures) ∙ c .before .before .before .before .before .opened2 .given .1, search needs)
 
 lookup-target-requires : tie.Need-lookup-target-requires
-lookup-target-requires c κs = readable (c .before .before .before .before .before .before .before .before .before .before .before .before .before .before .before .before .args .file .now) (c .before .before .before .before .before .before .before .before .before .before .opened2 .given .0 .0) (c .before .before .before .before .before .before .before .before .before .before .before .before .read .ensures) (c .before .before .before .before .before .before .before .before .before .before .opened2 .given .1) .order
+lookup-target-requires c κs =
+    let start = c .before .before .before .before .before .before .before .before .before .before .before .before .before .before .before .before in
+    let read = c .before .before .before .before .before .before .before .before .before .before .before .before .read in
+    let opened2 = c .before .before .before .before .before .before .before .before .before .before .opened2 in
+    readable (start .args .file .now) (opened2 .given .0 .0) (read .ensures) (opened2 .given .1) .order
 
 returns-2 : tie.Need-returns-2
-returns-2 c = looked-refused (c .before .before .before .before .before .before .before .args .file .now) (c .before .before .before .before .before .before .before .args .index .now) (c .before .before .before .before .before .before .before .args .target .now) (c .before .before .before .read .ensures) (c .before .opened .given .1)
+returns-2 c =
+    let start = c .before .before .before .before .before .before .before in
+    let read = c .before .before .before .read in
+    looked-refused (start .args .file .now) (start .args .index .now) (start .args .target .now) (read .ensures) (c .before .opened .given .1)
 
 same-length : tie.Need-same-length
 same-length c = search needs
 
 returns-3 : tie.Need-returns-3
-returns-3 c = looked-up (c .before .before .before .before .before .before .before .before .before .before .before .before .before .before .before .before .before .args .file .now) (c .before .before .before .before .before .before .before .before .before .before .before .before .before .before .before .before .before .args .index .now) (c .before .before .before .before .before .before .before .before .before .before .before .before .before .before .before .before .before .args .target .now) (c .before .before .before .before .before .before .before .before .before .before .before .before .before .read .ensures) (c .before .before .before .before .before .before .before .before .before .before .before .opened2 .given .0 .0) (c .before .before .before .before .before .before .before .before .before .before .before .opened2 .given .1) (omega (arith, c .before .before .before .before .before .before .before .before .if1 .left)) (c .before .before .before .before .before .write-index .ensures) (c .lookup-target .ensures)
+returns-3 c =
+    let start = c .before .before .before .before .before .before .before .before .before .before .before .before .before .before .before .before .before in
+    let read = c .before .before .before .before .before .before .before .before .before .before .before .before .before .read in
+    let opened2 = c .before .before .before .before .before .before .before .before .before .before .before .opened2 in
+    let if1 = c .before .before .before .before .before .before .before .before .if1 in
+    let write-index = c .before .before .before .before .before .write-index in
+    looked-up (start .args .file .now) (start .args .index .now) (start .args .target .now) (read .ensures) (opened2 .given .0 .0) (opened2 .given .1) (omega (arith, if1 .left)) (write-index .ensures) (c .lookup-target .ensures)
 
 pub lookup-spec : {M : Type 1} → statement M
 lookup-spec =

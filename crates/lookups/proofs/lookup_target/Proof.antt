@@ -26,21 +26,36 @@ is-function-name-requires c κs = search needs
 
 returns-2 : tie.Need-returns-2
 unfolding targetOf
-returns-2 c = rw (← c .before .before .before .before .passes .ensures, c .before .before .before .if1 .left, ← function-answer (c .before .before .before .before .before .before .before .before .args .c) (c .before .before .before .before .before .before .before .before .args .file .now) (c .before .before .before .before .before .before .before .before .args .target .now) (c .before .is-function-name .ensures), c .if2 .taken)
+returns-2 c =
+    let start = c .before .before .before .before .before .before .before .before in
+    let passes = c .before .before .before .before .passes in
+    let if1 = c .before .before .before .if1 in
+    rw (← passes .ensures, if1 .left, ← function-answer (start .args .c) (start .args .file .now) (start .args .target .now) (c .before .is-function-name .ensures), c .if2 .taken)
 
 is-reserved-requires : tie.Need-is-reserved-requires
 is-reserved-requires c κs = search needs
 
 returns-3 : tie.Need-returns-3
 unfolding targetOf
-returns-3 c = rw (← c .before .before .before .before .before .before .passes .ensures, c .before .before .before .before .before .if1 .left, ← function-answer (c .before .before .before .before .before .before .before .before .before .before .args .c) (c .before .before .before .before .before .before .before .before .before .before .args .file .now) (c .before .before .before .before .before .before .before .before .before .before .args .target .now) (c .before .before .before .is-function-name .ensures), c .before .before .if2 .left, ← c .before .is-reserved .ensures, c .if3 .taken)
+returns-3 c =
+    let start = c .before .before .before .before .before .before .before .before .before .before in
+    let passes = c .before .before .before .before .before .before .passes in
+    let if1 = c .before .before .before .before .before .if1 in
+    let is-function-name = c .before .before .before .is-function-name in
+    rw (← passes .ensures, if1 .left, ← function-answer (start .args .c) (start .args .file .now) (start .args .target .now) (is-function-name .ensures), c .before .before .if2 .left, ← c .before .is-reserved .ensures, c .if3 .taken)
 
 lookup-entry-requires : tie.Need-lookup-entry-requires
 lookup-entry-requires c κs = search needs
 
 returns-4 : tie.Need-returns-4
 unfolding targetOf
-returns-4 c = rw (← c .before .before .before .before .before .before .before .passes .ensures, c .before .before .before .before .before .before .if1 .left, ← function-answer (c .before .before .before .before .before .before .before .before .before .before .before .args .c) (c .before .before .before .before .before .before .before .before .before .before .before .args .file .now) (c .before .before .before .before .before .before .before .before .before .before .before .args .target .now) (c .before .before .before .before .is-function-name .ensures), c .before .before .before .if2 .left, ← c .before .before .is-reserved .ensures, c .before .if3 .left) (c .lookup-entry .ensures)
+returns-4 c =
+    let start = c .before .before .before .before .before .before .before .before .before .before .before in
+    let passes = c .before .before .before .before .before .before .before .passes in
+    let if1 = c .before .before .before .before .before .before .if1 in
+    let is-function-name = c .before .before .before .before .is-function-name in
+    let if2 = c .before .before .before .if2 in
+    rw (← passes .ensures, if1 .left, ← function-answer (start .args .c) (start .args .file .now) (start .args .target .now) (is-function-name .ensures), if2 .left, ← c .before .before .is-reserved .ensures, c .before .if3 .left) (c .lookup-entry .ensures)
 
 pub lookup-target-spec : {M : Type 1} → statement M
 lookup-target-spec =

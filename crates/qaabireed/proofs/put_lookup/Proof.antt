@@ -8,7 +8,10 @@ use Rattle.qaabireed.proofs.put_lookup.Statement.{statement}
 use Rattle.qaabireed.proofs.put_lookup.Tie as tie
 
 cast-put-four : tie.Need-cast-put-four
-cast-put-four c = omega (arith, lookup-refusal-fits (c .before .before .before .before .before .before .args .answer) (c .before .before .before .before .before .before .args .entries) (c .before .before .before .before .before .before .pre .1) (c .before .before .before .answer .given .1) (c .refusal-number .ensures))
+cast-put-four c =
+    let start = c .before .before .before .before .before .before in
+    let answer = c .before .before .before .answer in
+    omega (arith, lookup-refusal-fits (start .args .answer) (start .args .entries) (start .pre .1) (answer .given .1) (c .refusal-number .ensures))
 
 cast-put-four-2 : tie.Need-cast-put-four-2
 cast-put-four-2 c = omega (arith, exact-fits (c .before .before .before .before .before .args .answer) (c .before .before .before .before .before .args .entries) (c .before .before .before .before .before .pre .1) (c .before .before .answer2 .given .1))

@@ -26,7 +26,10 @@ loop-holds : tie.Need-loop-holds Inv-loop μ-loop
 loop-holds c = (search needs, refl)
 
 returns : tie.Need-returns Inv-loop μ-loop
-returns c = rw (c .before .before .before .loop .inv .1) (flows-none (c .before .before .before .before .before .before .args .function) (c .before .before .before .before .before .before .args .name .now) (c .before .before .before .loop .t .now) (c .before .before .read-list .ensures) (c .enum-told .given .1))
+returns c =
+    let start = c .before .before .before .before .before .before in
+    let loop = c .before .before .before .loop in
+    rw (loop .inv .1) (flows-none (start .args .function) (start .args .name .now) (loop .t .now) (c .before .before .read-list .ensures) (c .enum-told .given .1))
 
 -- the flow lies within what is left
 fits : (c : lts.After-known-told (read-list-reads.Asked, read-list-reads.Learnt, is-called-reads.Asked, is-called-reads.Learnt) reads.Pre reads.Post Inv-loop μ-loop) → 4 + c .before .n .given .0 .0 ≤ length (c .before .before .before .before .loop .t .now)
@@ -46,8 +49,12 @@ part-is-called-end c = omega (arith, fits c)
 
 returns-2 : tie.Need-returns-2 Inv-loop μ-loop
 returns-2 c =
-    rw (c .before .before .before .before .before .before .before .loop .inv .1)
-    (flow-found (c .before .before .before .before .before .before .before .before .before .before .args .function) (c .before .before .before .before .before .before .before .before .before .before .args .name .now) (c .before .before .before .before .before .before .before .loop .t .now) (c .before .before .before .before .n .given .0 .0) (c .before .before .before .before .before .before .read-list .ensures) (c .before .before .before .before .n .given .1) (c .before .is-called .ensures) (c .if1 .taken))
+    let start = c .before .before .before .before .before .before .before .before .before .before in
+    let loop = c .before .before .before .before .before .before .before .loop in
+    let read-list = c .before .before .before .before .before .before .read-list in
+    let n = c .before .before .before .before .n in
+    rw (loop .inv .1)
+    (flow-found (start .args .function) (start .args .name .now) (loop .t .now) (n .given .0 .0) (read-list .ensures) (n .given .1) (c .before .is-called .ensures) (c .if1 .taken))
 
 sub-t : tie.Need-sub-t Inv-loop μ-loop
 sub-t c = omega (arith, fits (c .before .before .before))
@@ -62,11 +69,15 @@ loop-less : tie.Need-loop-less Inv-loop μ-loop
 loop-less c = simp (length-take, length-drop) (omega (arith, fits (c .before .before .before .before)))
 
 loop-again : tie.Need-loop-again Inv-loop μ-loop
-loop-again c = (
-  simp (length-take, length-drop) (omega (arith, fits (c .before .before .before .before), c .before .before .before .before .before .before .before .before .loop .inv .0)),
-  c .before .before .before .before .before .before .before .before .loop .inv .1
-      ∙ flow-passed (c .before .before .before .before .before .before .before .before .before .before .before .args .function) (c .before .before .before .before .before .before .before .before .before .before .before .args .name .now) (c .before .before .before .before .before .before .before .before .loop .t .now) (c .before .before .before .before .before .n .given .0 .0) (c .before .before .before .before .before .before .before .read-list .ensures) (c .before .before .before .before .before .n .given .1) (c .before .before .is-called .ensures) (c .before .if1 .left),
-)
+loop-again c =
+    let start = c .before .before .before .before .before .before .before .before .before .before .before in
+    let loop = c .before .before .before .before .before .before .before .before .loop in
+    let read-list = c .before .before .before .before .before .before .before .read-list in
+    let n = c .before .before .before .before .before .n in (
+      simp (length-take, length-drop) (omega (arith, fits (c .before .before .before .before), loop .inv .0)),
+      loop .inv .1
+          ∙ flow-passed (start .args .function) (start .args .name .now) (loop .t .now) (n .given .0 .0) (read-list .ensures) (n .given .1) (c .before .before .is-called .ensures) (c .before .if1 .left),
+    )
 
 pub flows-have-spec : {M : Type 1} → statement M
 flows-have-spec =

@@ -30,8 +30,11 @@ returns c =
 
 returns-2 : tie.Need-returns-2 Inv-loop μ-loop
 returns-2 c =
-    rw (c .before .before .before .before .before .loop .inv)
-    (front-found (c .before .before .before .before .before .before .before .before .args .name .now) (c .before .before .before .before .before .loop .left) (c .before .before .before .before .before .loop .t .now) (omega arith) (c .before .before .before .if1 .left) (c .before .before .name-at .ensures) (c .before .same-name .ensures) (c .if2 .taken))
+    let start = c .before .before .before .before .before .before .before .before in
+    let loop = c .before .before .before .before .before .loop in
+    let if1 = c .before .before .before .if1 in
+    rw (loop .inv)
+    (front-found (start .args .name .now) (loop .left) (loop .t .now) (omega arith) (if1 .left) (c .before .before .name-at .ensures) (c .before .same-name .ensures) (c .if2 .taken))
 
 -- the name lies within what is left
 fits : (c : lts.Else2 (name-at-reads.Asked, name-at-reads.Learnt, same-name-reads.Asked, same-name-reads.Learnt) reads.Pre reads.Post Inv-loop μ-loop) → 1 + length (c .before .before .name-at .result .now) ≤ length (c .before .before .before .before .before .loop .t .now)
@@ -51,7 +54,11 @@ part-t-end c = omega (arith, fits c)
 
 loop-again : tie.Need-loop-again Inv-loop μ-loop
 loop-again c =
-    c .before .before .before .before .before .before .loop .inv ∙ front-passed (c .before .before .before .before .before .before .before .before .before .args .name .now) (c .before .before .before .before .before .before .loop .left) (c .before .before .before .before .before .before .loop .t .now) (omega arith) (c .before .before .before .before .if1 .left) (c .before .before .before .name-at .ensures) (c .before .before .same-name .ensures) (c .before .if2 .left)
+    let start = c .before .before .before .before .before .before .before .before .before in
+    let loop = c .before .before .before .before .before .before .loop in
+    let if1 = c .before .before .before .before .if1 in
+    let name-at = c .before .before .before .name-at in
+    loop .inv ∙ front-passed (start .args .name .now) (loop .left) (loop .t .now) (omega arith) (if1 .left) (name-at .ensures) (c .before .before .same-name .ensures) (c .before .if2 .left)
 
 returns-3 : tie.Need-returns-3 Inv-loop μ-loop
 returns-3 c = rw (c .before .loop .inv) (none-left (c .before .before .before .before .args .name .now) (c .before .loop .left) (c .before .loop .t .now) (c .loop-test .left))

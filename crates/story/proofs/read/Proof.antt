@@ -12,11 +12,18 @@ returns c = read-closed (c .before .before .before .before .before .args .file .
 
 returns-2 : tie.Need-returns-2
 returns-2 c =
-    read-refused (c .before .before .before .before .before .before .before .before .before .args .file .now) (c .before .before .before .before .before .opened2 .given .0 .0) (c .before .before .before .before .before .before .before .read-trailer .ensures) (c .before .before .before .before .before .opened2 .given .1) (c .before .before .before .read-sections .ensures) (c .before .ended .given .1)
+    let start = c .before .before .before .before .before .before .before .before .before in
+    let read-trailer = c .before .before .before .before .before .before .before .read-trailer in
+    let opened2 = c .before .before .before .before .before .opened2 in
+    let read-sections = c .before .before .before .read-sections in
+    read-refused (start .args .file .now) (opened2 .given .0 .0) (read-trailer .ensures) (opened2 .given .1) (read-sections .ensures) (c .before .ended .given .1)
 
 returns-3 : tie.Need-returns-3
 returns-3 c =
-    read-well (c .before .before .before .before .before .before .before .before .args .file .now) (c .before .before .before .before .opened2 .given .0 .0) (c .before .before .before .before .before .before .read-trailer .ensures) (c .before .before .before .before .opened2 .given .1) (c .before .before .read-sections .ensures) (c .enum-told .given .1)
+    let start = c .before .before .before .before .before .before .before .before in
+    let read-trailer = c .before .before .before .before .before .before .read-trailer in
+    let opened2 = c .before .before .before .before .opened2 in
+    read-well (start .args .file .now) (opened2 .given .0 .0) (read-trailer .ensures) (opened2 .given .1) (c .before .before .read-sections .ensures) (c .enum-told .given .1)
 
 pub read-spec : {M : Type 1} → statement M
 read-spec = tie.close (tie.spec (λ c κs. search needs) (λ c. search needs) (λ c. search needs) read-sections-requires (λ c. search needs) (λ c. search needs) returns returns-2 returns-3)

@@ -16,19 +16,35 @@ returns c = rw (sections-end (c .before .before .before .before .before .args .c
 returns-2 : tie.Need-returns-2
 unfolding part
 returns-2 c =
-    rw (sections-end (c .before .before .before .before .before .before .before .before .before .args .c) (c .before .before .before .before .before .before .before .before .before .args .file .now), well-then _ _ (c .before .before .before .before .before .before .read-names .ensures) (c .before .before .before .before .enum-told .given .1))
-    (other-then _ _ (c .before .before .read-names2 .ensures) (not-well (tagOf the-type) refl (c .before .before .read-names2 .result) (c .before .match2 .keys2)))
+    let start = c .before .before .before .before .before .before .before .before .before in
+    let read-names = c .before .before .before .before .before .before .read-names in
+    let enum-told = c .before .before .before .before .enum-told in
+    let read-names2 = c .before .before .read-names2 in
+    rw (sections-end (start .args .c) (start .args .file .now), well-then _ _ (read-names .ensures) (enum-told .given .1))
+    (other-then _ _ (read-names2 .ensures) (not-well (tagOf the-type) refl (read-names2 .result) (c .before .match2 .keys2)))
 
 returns-3 : tie.Need-returns-3
 unfolding part
 returns-3 c =
-    rw (sections-end (c .before .before .before .before .before .before .before .before .before .before .before .before .before .args .c) (c .before .before .before .before .before .before .before .before .before .before .before .before .before .args .file .now), well-then _ _ (c .before .before .before .before .before .before .before .before .before .before .read-names .ensures) (c .before .before .before .before .before .before .before .before .enum-told .given .1), well-then _ _ (c .before .before .before .before .before .before .read-names2 .ensures) (c .before .before .before .before .enum-told3 .given .1))
-    (other-then _ _ (c .before .before .read-nodes .ensures) (not-well (tagOf the-type) refl (c .before .before .read-nodes .result) (c .before .match3 .keys2)))
+    let start = c .before .before .before .before .before .before .before .before .before .before .before .before .before in
+    let read-names = c .before .before .before .before .before .before .before .before .before .before .read-names in
+    let enum-told = c .before .before .before .before .before .before .before .before .enum-told in
+    let read-names2 = c .before .before .before .before .before .before .read-names2 in
+    let enum-told3 = c .before .before .before .before .enum-told3 in
+    let read-nodes = c .before .before .read-nodes in
+    rw (sections-end (start .args .c) (start .args .file .now), well-then _ _ (read-names .ensures) (enum-told .given .1), well-then _ _ (read-names2 .ensures) (enum-told3 .given .1))
+    (other-then _ _ (read-nodes .ensures) (not-well (tagOf the-type) refl (read-nodes .result) (c .before .match3 .keys2)))
 
 returns-4 : tie.Need-returns-4
 unfolding part
 returns-4 c =
-    rw (sections-end (c .before .before .before .before .before .before .before .before .before .before .before .before .before .before .before .args .c) (c .before .before .before .before .before .before .before .before .before .before .before .before .before .before .before .args .file .now), well-then _ _ (c .before .before .before .before .before .before .before .before .before .before .before .before .read-names .ensures) (c .before .before .before .before .before .before .before .before .before .before .enum-told .given .1), well-then _ _ (c .before .before .before .before .before .before .before .before .read-names2 .ensures) (c .before .before .before .before .before .before .enum-told3 .given .1), well-then _ _ (c .before .before .before .before .read-nodes .ensures) (c .before .before .enum-told5 .given .1))
+    let start = c .before .before .before .before .before .before .before .before .before .before .before .before .before .before .before in
+    let read-names = c .before .before .before .before .before .before .before .before .before .before .before .before .read-names in
+    let enum-told = c .before .before .before .before .before .before .before .before .before .before .enum-told in
+    let read-names2 = c .before .before .before .before .before .before .before .before .read-names2 in
+    let enum-told3 = c .before .before .before .before .before .before .enum-told3 in
+    let read-nodes = c .before .before .before .before .read-nodes in
+    rw (sections-end (start .args .c) (start .args .file .now), well-then _ _ (read-names .ensures) (enum-told .given .1), well-then _ _ (read-names2 .ensures) (enum-told3 .given .1), well-then _ _ (read-nodes .ensures) (c .before .before .enum-told5 .given .1))
     (c .read-flows .ensures)
 
 pub read-sections-spec : {M : Type 1} → statement M

@@ -33,8 +33,13 @@ name-at-requires : tie.Need-name-at-requires
 name-at-requires c κs = search needs
 
 returns-2 : tie.Need-returns-2
-returns-2 c = item-named-there (c .before .before .before .before .before .before .before .args .file .now) (c .before .before .before .before .before .before .before .args .place) (c .before .before .before .before .before .before .before .args .tag) (c .before .before .before .before .before .payload-at .ensures)
-    (c .before .before .before .is-nameless .ensures _ (c .before .before .before .before .sort-at .ensures)) (c .before .before .if1 .left) (c .before .name-start .ensures _ (c .before .before .before .before .sort-at .ensures)) (c .name-at .ensures)
+returns-2 c =
+    let start = c .before .before .before .before .before .before .before in
+    let payload-at = c .before .before .before .before .before .payload-at in
+    let sort-at = c .before .before .before .before .sort-at in
+    let is-nameless = c .before .before .before .is-nameless in
+    item-named-there (start .args .file .now) (start .args .place) (start .args .tag) (payload-at .ensures)
+    (is-nameless .ensures _ (sort-at .ensures)) (c .before .before .if1 .left) (c .before .name-start .ensures _ (sort-at .ensures)) (c .name-at .ensures)
 
 pub item-name-spec : {M : Type 1} → statement M
 item-name-spec =

@@ -43,7 +43,11 @@ part-result-end-2 : tie.Need-part-result-end-2
 part-result-end-2 c = omega (arith, head-fits (c .before .before .before .before .tail .result .now) (c .before .h .given .0 .0) (c .before .h .given .0 .1 .0) (c .before .before .before .read-head .ensures) (c .before .h .given .1))
 
 returns-2 : tie.Need-returns-2
-returns-2 c = payload-whole (c .before .before .before .before .before .before .before .args .file .now) (c .before .before .before .before .before .before .before .args .place) (c .before .before .before .before .before .tail .ensures) (c .before .before .before .before .read-head .ensures) (c .before .before .h .given .1)
+returns-2 c =
+    let start = c .before .before .before .before .before .before .before in
+    let tail = c .before .before .before .before .before .tail in
+    let read-head = c .before .before .before .before .read-head in
+    payload-whole (start .args .file .now) (start .args .place) (tail .ensures) (read-head .ensures) (c .before .before .h .given .1)
 
 pub payload-at-spec : {M : Type 1} → statement M
 payload-at-spec =

@@ -26,13 +26,21 @@ same-length : tie.Need-same-length
 same-length c = search needs
 
 returns : tie.Need-returns
-returns c = counted-refused (c .before .before .before .before .before .before .before .before .before .args .file .now) (λ i. c .before .before .before .before .before .before .before .before .shared-slice-known .given i .fits) (c .before .before .before .before .before .before .before .before .before .args .from) (c .before .before .before .before .before .before .before .before .before .args .to) (c .before .before .before .before .walk-nodes .ensures) (c .enum-told .given .1)
+returns c =
+    let start = c .before .before .before .before .before .before .before .before .before in
+    let shared-slice-known = c .before .before .before .before .before .before .before .before .shared-slice-known in
+    let walk-nodes = c .before .before .before .before .walk-nodes in
+    counted-refused (start .args .file .now) (λ i. shared-slice-known .given i .fits) (start .args .from) (start .args .to) (walk-nodes .ensures) (c .enum-told .given .1)
 
 same-length-2 : tie.Need-same-length-2
 same-length-2 c = search needs
 
 returns-2 : tie.Need-returns-2
-returns-2 c = counted-well (c .before .before .before .before .before .before .before .before .before .before .args .file .now) (λ i. c .before .before .before .before .before .before .before .before .before .shared-slice-known .given i .fits) (c .before .before .before .before .before .before .before .before .before .before .args .from) (c .before .before .before .before .before .before .before .before .before .before .args .to) (c .before .before .before .before .before .walk-nodes .ensures) (c .before .answer .given .1)
+returns-2 c =
+    let start = c .before .before .before .before .before .before .before .before .before .before in
+    let shared-slice-known = c .before .before .before .before .before .before .before .before .before .shared-slice-known in
+    let walk-nodes = c .before .before .before .before .before .walk-nodes in
+    counted-well (start .args .file .now) (λ i. shared-slice-known .given i .fits) (start .args .from) (start .args .to) (walk-nodes .ensures) (c .before .answer .given .1)
 
 pub count-items-spec : {M : Type 1} → statement M
 count-items-spec =

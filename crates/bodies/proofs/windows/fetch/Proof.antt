@@ -27,7 +27,10 @@ same-length : tie.Need-same-length
 same-length c = search needs
 
 returns-2 : tie.Need-returns-2
-returns-2 c = fetched-at (c .before .before .before .before .before .before .before .before .args .file .now) (λ i. c .before .before .before .before .before .before .before .shared-slice-known .given i .fits) (c .before .before .before .before .before .before .before .before .args .from) (c .before .before .before .before .before .before .before .before .args .to) (c .before .before .before .before .before .before .before .before .args .i) (c .before .before .walk-nodes .ensures) (omega arith)
+returns-2 c =
+    let start = c .before .before .before .before .before .before .before .before in
+    let shared-slice-known = c .before .before .before .before .before .before .before .shared-slice-known in
+    fetched-at (start .args .file .now) (λ i. shared-slice-known .given i .fits) (start .args .from) (start .args .to) (start .args .i) (c .before .before .walk-nodes .ensures) (omega arith)
 
 pub fetch-spec : {M : Type 1} → statement M
 fetch-spec =

@@ -9,7 +9,11 @@ returns : tie.Need-returns
 returns c k before = rw (variable-diverts-judged k _ before _) (picked _ (c .before .before .before .has-target .ensures) (c .before .before .if1 .taken) (rw (c .before .item-name .ensures) at (c .check-variable-divert-target .ensures)))
 
 returns-2 : tie.Need-returns-2
-returns-2 c k before = rw (variable-diverts-judged k _ before _) (passed _ (c .before .before .before .before .before .has-target .ensures) (c .before .before .before .before .if1 .left) (picked _ (c .before .before .before .is-sort .ensures) (c .before .before .if2 .taken) (rw (c .before .item-name2 .ensures) at (c .check-divert-target-arg .ensures))))
+returns-2 c k before =
+    let has-target = c .before .before .before .before .before .has-target in
+    let if1 = c .before .before .before .before .if1 in
+    let is-sort = c .before .before .before .is-sort in
+    rw (variable-diverts-judged k _ before _) (passed _ (has-target .ensures) (if1 .left) (picked _ (is-sort .ensures) (c .before .before .if2 .taken) (rw (c .before .item-name2 .ensures) at (c .check-divert-target-arg .ensures))))
 
 returns-3 : tie.Need-returns-3
 returns-3 c k before = rw (variable-diverts-judged k _ before _) (passed _ (c .before .before .before .has-target .ensures) (c .before .before .if1 .left) (passed _ (c .before .is-sort .ensures) (c .if2 .left) refl))

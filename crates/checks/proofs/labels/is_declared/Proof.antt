@@ -9,7 +9,11 @@ returns : tie.Need-returns
 returns c = or-found _ (counted-answer _ (c .before .before .before .before .before .before .args .name .now) _ (c .before .counted-has-name .ensures)) (c .if1 .taken)
 
 returns-2 : tie.Need-returns-2
-returns-2 c = or-passed (counted-answer _ (c .before .before .before .before .before .before .before .before .before .before .args .name .now) _ (c .before .before .before .before .before .counted-has-name .ensures)) (c .before .before .before .before .if1 .left) (c .before .before .body-has-temp .ensures)
+returns-2 c =
+    let start = c .before .before .before .before .before .before .before .before .before .before in
+    let counted-has-name = c .before .before .before .before .before .counted-has-name in
+    let if1 = c .before .before .before .before .if1 in
+    or-passed (counted-answer _ (start .args .name .now) _ (counted-has-name .ensures)) (if1 .left) (c .before .before .body-has-temp .ensures)
 
 pub is-declared-spec : {M : Type 1} → statement M
 is-declared-spec =

@@ -34,19 +34,35 @@ returns : tie.Need-returns Inv-loop μ-loop
 returns c = rw (c .before .before .before .loop .inv .2) (label-none _ _ _ (c .before .before .before .loop .inv .0) (c .before .before .stitch-view .ensures) (c .before .before .before .before .before .before .before .args .name .now) (c .enum-told .given .1))
 
 body-has-label-requires : tie.Need-body-has-label-requires Inv-loop μ-loop
-body-has-label-requires c κs = (stitch-range _ _ _ (c .before .before .before .before .before .loop .inv .0) (c .before .before .before .before .stitch-view .ensures) _ (c .before .before .t .given .1), omega (arith, c .before .before .before .before .before .loop .inv .1, c .before .before .before .before .before .before .before .before .before .pre .1))
+body-has-label-requires c κs =
+    let start = c .before .before .before .before .before .before .before .before .before in
+    let loop = c .before .before .before .before .before .loop in
+    let stitch-view = c .before .before .before .before .stitch-view in
+    (stitch-range _ _ _ (loop .inv .0) (stitch-view .ensures) _ (c .before .before .t .given .1), omega (arith, loop .inv .1, start .pre .1))
 
 same-length-2 : tie.Need-same-length-2 Inv-loop μ-loop
 same-length-2 c = omega (arith, c .before .before .before .before .before .before .before .before .before .loop .inv .1)
 
 returns-2 : tie.Need-returns-2 Inv-loop μ-loop
-returns-2 c = rw (c .before .before .before .before .before .before .before .before .before .loop .inv .2) (label-found _ _ _ (c .before .before .before .before .before .before .before .before .before .loop .inv .0) (c .before .before .before .before .before .before .before .before .stitch-view .ensures) _ (c .before .before .before .before .before .before .t .given .1) (c .before .before .before .before .before .before .before .before .before .before .before .before .before .args .name .now) (c .before .before .before .body-has-label .ensures) (c .if1 .taken))
+returns-2 c =
+    let start = c .before .before .before .before .before .before .before .before .before .before .before .before .before in
+    let loop = c .before .before .before .before .before .before .before .before .before .loop in
+    let stitch-view = c .before .before .before .before .before .before .before .before .stitch-view in
+    let t = c .before .before .before .before .before .before .t in
+    let body-has-label = c .before .before .before .body-has-label in
+    rw (loop .inv .2) (label-found _ _ _ (loop .inv .0) (stitch-view .ensures) _ (t .given .1) (start .args .name .now) (body-has-label .ensures) (c .if1 .taken))
 
 loop-less : tie.Need-loop-less Inv-loop μ-loop
 loop-less c = stitches-fewer _ _ _ (c .before .before .before .before .before .before .before .before .before .loop .inv .0) (c .before .before .before .before .before .before .before .before .stitch-view .ensures) _ (c .before .before .before .before .before .before .t .given .1)
 
 loop-again : tie.Need-loop-again Inv-loop μ-loop
-loop-again c = (stitches-after _ _ _ (c .before .before .before .before .before .before .before .before .before .loop .inv .0) (c .before .before .before .before .before .before .before .before .stitch-view .ensures) _ (c .before .before .before .before .before .before .t .given .1), omega (arith, c .before .before .before .before .before .before .before .before .before .loop .inv .1), c .before .before .before .before .before .before .before .before .before .loop .inv .2 ∙ label-passed _ _ _ (c .before .before .before .before .before .before .before .before .before .loop .inv .0) (c .before .before .before .before .before .before .before .before .stitch-view .ensures) _ (c .before .before .before .before .before .before .t .given .1) (c .before .before .before .before .before .before .before .before .before .before .before .before .before .args .name .now) (c .before .before .before .body-has-label .ensures) (c .if1 .left))
+loop-again c =
+    let start = c .before .before .before .before .before .before .before .before .before .before .before .before .before in
+    let loop = c .before .before .before .before .before .before .before .before .before .loop in
+    let stitch-view = c .before .before .before .before .before .before .before .before .stitch-view in
+    let t = c .before .before .before .before .before .before .t in
+    let body-has-label = c .before .before .before .body-has-label in
+    (stitches-after _ _ _ (loop .inv .0) (stitch-view .ensures) _ (t .given .1), omega (arith, loop .inv .1), loop .inv .2 ∙ label-passed _ _ _ (loop .inv .0) (stitch-view .ensures) _ (t .given .1) (start .args .name .now) (body-has-label .ensures) (c .if1 .left))
 
 pub is-stitch-label-spec : {M : Type 1} → statement M
 is-stitch-label-spec =

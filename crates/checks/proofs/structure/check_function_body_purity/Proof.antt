@@ -10,13 +10,28 @@ returns : tie.Need-returns
 returns c k h before = rw (purity-at k h before (c .before .before .before .args .file .now) (c .before .before .before .args .slot)) (picked _ (c .before .is-sort .ensures) (c .if1 .taken) refl)
 
 returns-2 : tie.Need-returns-2
-returns-2 c k h before = rw (purity-at k h before (c .before .before .before .before .before .before .before .before .args .file .now) (c .before .before .before .before .before .before .before .before .args .slot)) (passed _ (c .before .before .before .before .before .before .is-sort .ensures) (c .before .before .before .before .before .if1 .left) (picked _ (c .before .before .before .before .is-sort2 .ensures) (c .before .before .before .if2 .taken) (picked _ (rw (c .before .before .item-name .ensures) at (c .before .is-end-or-done .ensures)) (c .if3 .taken) refl)))
+returns-2 c k h before =
+    let start = c .before .before .before .before .before .before .before .before in
+    let is-sort = c .before .before .before .before .before .before .is-sort in
+    let if1 = c .before .before .before .before .before .if1 in
+    let is-sort2 = c .before .before .before .before .is-sort2 in
+    let if2 = c .before .before .before .if2 in
+    rw (purity-at k h before (start .args .file .now) (start .args .slot)) (passed _ (is-sort .ensures) (if1 .left) (picked _ (is-sort2 .ensures) (if2 .taken) (picked _ (rw (c .before .before .item-name .ensures) at (c .before .is-end-or-done .ensures)) (c .if3 .taken) refl)))
 
 returns-3 : tie.Need-returns-3
-returns-3 c k h before = rw (purity-at k h before (c .before .before .before .before .before .before .before .before .args .file .now) (c .before .before .before .before .before .before .before .before .args .slot)) (passed _ (c .before .before .before .before .before .before .is-sort .ensures) (c .before .before .before .before .before .if1 .left) (picked _ (c .before .before .before .before .is-sort2 .ensures) (c .before .before .before .if2 .taken) (passed _ (rw (c .before .before .item-name .ensures) at (c .before .is-end-or-done .ensures)) (c .if3 .left) refl)))
+returns-3 c k h before =
+    let start = c .before .before .before .before .before .before .before .before in
+    let is-sort = c .before .before .before .before .before .before .is-sort in
+    let if1 = c .before .before .before .before .before .if1 in
+    let is-sort2 = c .before .before .before .before .is-sort2 in
+    let if2 = c .before .before .before .if2 in
+    rw (purity-at k h before (start .args .file .now) (start .args .slot)) (passed _ (is-sort .ensures) (if1 .left) (picked _ (is-sort2 .ensures) (if2 .taken) (passed _ (rw (c .before .before .item-name .ensures) at (c .before .is-end-or-done .ensures)) (c .if3 .left) refl)))
 
 returns-4 : tie.Need-returns-4
-returns-4 c k h before = rw (purity-at k h before (c .before .before .before .before .before .args .file .now) (c .before .before .before .before .before .args .slot)) (passed _ (c .before .before .before .is-sort .ensures) (c .before .before .if1 .left) (passed _ (c .before .is-sort2 .ensures) (c .if2 .left) refl))
+returns-4 c k h before =
+    let start = c .before .before .before .before .before in
+    let is-sort = c .before .before .before .is-sort in
+    rw (purity-at k h before (start .args .file .now) (start .args .slot)) (passed _ (is-sort .ensures) (c .before .before .if1 .left) (passed _ (c .before .is-sort2 .ensures) (c .if2 .left) refl))
 
 pub check-function-body-purity-spec : {M : Type 1} → statement M
 check-function-body-purity-spec =

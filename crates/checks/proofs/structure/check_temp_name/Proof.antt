@@ -12,10 +12,22 @@ returns-2 : tie.Need-returns-2
 returns-2 c = passed _ (c .before .before .before .is-function .ensures) (c .before .before .if1 .left) (picked _ (c .before .is-parameter .ensures) (c .if2 .taken) refl)
 
 returns-3 : tie.Need-returns-3
-returns-3 c = passed _ (c .before .before .before .before .before .before .before .before .is-function .ensures) (c .before .before .before .before .before .before .before .if1 .left) (passed _ (c .before .before .before .before .before .before .is-parameter .ensures) (c .before .before .before .before .before .if2 .left) (picked _ (c .before .before .before .is-label .ensures) (c .if3 .taken) refl))
+returns-3 c =
+    let is-function = c .before .before .before .before .before .before .before .before .is-function in
+    let if1 = c .before .before .before .before .before .before .before .if1 in
+    let is-parameter = c .before .before .before .before .before .before .is-parameter in
+    let if2 = c .before .before .before .before .before .if2 in
+    let is-label = c .before .before .before .is-label in
+    passed _ (is-function .ensures) (if1 .left) (passed _ (is-parameter .ensures) (if2 .left) (picked _ (is-label .ensures) (c .if3 .taken) refl))
 
 returns-4 : tie.Need-returns-4
-returns-4 c = passed _ (c .before .before .before .before .before .before .before .before .is-function .ensures) (c .before .before .before .before .before .before .before .if1 .left) (passed _ (c .before .before .before .before .before .before .is-parameter .ensures) (c .before .before .before .before .before .if2 .left) (passed _ (c .before .before .before .is-label .ensures) (c .if3 .left) refl))
+returns-4 c =
+    let is-function = c .before .before .before .before .before .before .before .before .is-function in
+    let if1 = c .before .before .before .before .before .before .before .if1 in
+    let is-parameter = c .before .before .before .before .before .before .is-parameter in
+    let if2 = c .before .before .before .before .before .if2 in
+    let is-label = c .before .before .before .is-label in
+    passed _ (is-function .ensures) (if1 .left) (passed _ (is-parameter .ensures) (if2 .left) (passed _ (is-label .ensures) (c .if3 .left) refl))
 
 pub check-temp-name-spec : {M : Type 1} → statement M
 check-temp-name-spec =

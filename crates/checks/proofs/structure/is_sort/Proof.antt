@@ -1,5 +1,4 @@
 -- `is_sort`: the two numbers are the same. Assumes nothing.
-use borrow.Author.Needs.{needs}
 use Rattle.checks.proofs.structure.is_sort.Statement.{statement}
 use Rattle.checks.proofs.structure.is_sort.Tie as tie
 

@@ -7,7 +7,12 @@ use Rattle.checks.proofs.structure.validate_temp_name.Statement.{statem
 use Rattle.checks.proofs.structure.validate_temp_name.Tie as tie
 
 returns : tie.Need-returns
-returns c before = rw (temps-at _ _ before (c .before .before .before .before .before .before .before .before .before .before .args .file .now) (c .before .before .before .before .before .before .before .before .before .before .args .slot)) (picked _ (c .before .before .before .before .before .before .is-sort .ensures) (c .before .before .before .before .before .if1 .taken) (rw (c .before .before .before .before .item-name .ensures) at (c .before .before .check-temp-name .ensures)))
+returns c before =
+    let start = c .before .before .before .before .before .before .before .before .before .before in
+    let is-sort = c .before .before .before .before .before .before .is-sort in
+    let if1 = c .before .before .before .before .before .if1 in
+    let item-name = c .before .before .before .before .item-name in
+    rw (temps-at _ _ before (start .args .file .now) (start .args .slot)) (picked _ (is-sort .ensures) (if1 .taken) (rw (item-name .ensures) at (c .before .before .check-temp-name .ensures)))
 
 returns-2 : tie.Need-returns-2
 returns-2 c before = rw (temps-at _ _ before (c .before .before .before .before .before .args .file .now) (c .before .before .before .before .before .args .slot)) (passed _ (c .before .is-sort .ensures) (c .if1 .left) refl)

@@ -1,5 +1,4 @@
 -- `validate_body`: the items are counted and fetched, then the passes go along them. Assumes nothing.
-use native.Mathlib.Omega.{arith}
 use Rattle.context.proofs.Walks.{held-first}
 use borrow.Author.Needs.{needs}
 use Rattle.context.proofs.context.validate_body.Statement.{statement}

@@ -31,7 +31,12 @@ add-item-requires : tie.Need-add-item-requires Inv-loop μ-loop
 add-item-requires c κs = c .sort-at .ensures
 
 loop-again : tie.Need-loop-again Inv-loop μ-loop
-loop-again c = (omega (arith, c .before .before .before .before .before .before .before .before .before .before .before .before .loop .inv .0, c .before .before .before .before .before .before .before .before .before .before .before .loop-test, c .before .before .before .before .before .before .before .before .before .fetch .ensures .early, c .before .before .before .before .before .before .before .before .before .fetch .ensures .room), c .before .before .before .before .before .before .before .before .before .fetch .ensures .window, items-next (c .before .before .before .before .before .before .before .before .before .before .before .before .loop .inv .2) (fetched-item (c .before .before .before .before .before .before .before .before .before .fetch .ensures) (omega (arith, c .before .before .before .before .before .before .before .before .before .before .before .loop-test, c .before .before .before .before .before .before .before .before .before .before .before .before .before .before .before .count-items .ensures .counts))) (c .before .before .add-item .ensures))
+loop-again c =
+    let count-items = c .before .before .before .before .before .before .before .before .before .before .before .before .before .before .before .count-items in
+    let loop = c .before .before .before .before .before .before .before .before .before .before .before .before .loop in
+    let loop-test = c .before .before .before .before .before .before .before .before .before .before .before .loop-test in
+    let fetch = c .before .before .before .before .before .before .before .before .before .fetch in
+    (omega (arith, loop .inv .0, loop-test, fetch .ensures .early, fetch .ensures .room), fetch .ensures .window, items-next (loop .inv .2) (fetched-item (fetch .ensures) (omega (arith, loop-test, count-items .ensures .counts))) (c .before .before .add-item .ensures))
 
 returns : tie.Need-returns Inv-loop μ-loop
 returns c = items-end (c .before .loop .inv .2) (omega (arith, c .loop-test, c .before .before .before .before .count-items .ensures .counts))

@@ -1,5 +1,4 @@
 -- `put_declared`: the parameters are added, and then the temps; a filter without slots lacks nothing. Assumes nothing.
-use native.Mathlib.Omega.{arith}
 use Rattle.filters.proofs.Bodies.{declared-put, declared-none}
 use borrow.Author.Needs.{needs}
 use Rattle.filters.proofs.declared.put_declared.Statement.{statement}

@@ -6,10 +6,20 @@ use Rattle.filters.proofs.gathers.check_gather_label.Statement.{stateme
 use Rattle.filters.proofs.gathers.check_gather_label.Tie as tie
 
 returns : tie.Need-returns
-returns c k h = rw (gathers-judged k h _ _) (picked _ (c .before .before .before .before .before .before .before .is-sort .ensures) (c .before .before .before .before .before .before .if1 .taken) (picked _ (rw (c .before .before .before .before .before .item-name .ensures) at (c .before .before .before .has-gather-in .ensures)) (c .if2 .taken) refl))
+returns c k h =
+    let is-sort = c .before .before .before .before .before .before .before .is-sort in
+    let if1 = c .before .before .before .before .before .before .if1 in
+    let item-name = c .before .before .before .before .before .item-name in
+    let has-gather-in = c .before .before .before .has-gather-in in
+    rw (gathers-judged k h _ _) (picked _ (is-sort .ensures) (if1 .taken) (picked _ (rw (item-name .ensures) at (has-gather-in .ensures)) (c .if2 .taken) refl))
 
 returns-2 : tie.Need-returns-2
-returns-2 c k h = rw (gathers-judged k h _ _) (picked _ (c .before .before .before .before .before .before .before .is-sort .ensures) (c .before .before .before .before .before .before .if1 .taken) (passed _ (rw (c .before .before .before .before .before .item-name .ensures) at (c .before .before .before .has-gather-in .ensures)) (c .if2 .left) refl))
+returns-2 c k h =
+    let is-sort = c .before .before .before .before .before .before .before .is-sort in
+    let if1 = c .before .before .before .before .before .before .if1 in
+    let item-name = c .before .before .before .before .before .item-name in
+    let has-gather-in = c .before .before .before .has-gather-in in
+    rw (gathers-judged k h _ _) (picked _ (is-sort .ensures) (if1 .taken) (passed _ (rw (item-name .ensures) at (has-gather-in .ensures)) (c .if2 .left) refl))
 
 returns-3 : tie.Need-returns-3
 returns-3 c k h = rw (gathers-judged k h _ _) (passed _ (c .before .is-sort .ensures) (c .if1 .left) refl)

@@ -38,7 +38,11 @@ add-at-2 : tie.Need-add-at-2 Inv-loop μ-loop
 add-at-2 c = omega (arith, c .shared-slice-known3 .given (c .before .before .before .before .before .before .before .before .loop .at))
 
 loop-again : tie.Need-loop-again Inv-loop μ-loop
-loop-again c = (omega (arith, c .before .before .before .before .before .before .before .before .loop .inv .0), names-next (c .before .before .before .before .before .before .before .before .loop .inv .1) (omega arith) (omega arith) (c .before .before .before .before .name-at .ensures) (c .before .before .before .add-word .ensures))
+loop-again c =
+    let loop = c .before .before .before .before .before .before .before .before .loop in
+    let name-at = c .before .before .before .before .name-at in
+    let add-word = c .before .before .before .add-word in
+    (omega (arith, loop .inv .0), names-next (loop .inv .1) (omega arith) (omega arith) (name-at .ensures) (add-word .ensures))
 
 same-length-2 : tie.Need-same-length-2 Inv-loop μ-loop
 same-length-2 c = c .before .loop .inv .0

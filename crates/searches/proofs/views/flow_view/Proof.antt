@@ -19,12 +19,18 @@ returns c = rw (← c .before .before .read-list .ensures, c .enum-told .given .
 returns-2 : tie.Need-returns-2
 unfolding flowViewOf flowViewAt flaggedView part
 returns-2 c =
-    rw (← c .before .before .before .before .read-list .ensures, c .before .before .n .given .1, ← title-none (c .before .before .before .before .before .before .before .args .file .now) (c .before .before .before .before .before .before .before .args .at + 5) (c .before .before .before .before .before .before .before .args .at + (4 + c .before .before .n .given .0 .0)) (omega (arith, c .if1 .taken)))
+    let start = c .before .before .before .before .before .before .before in
+    let read-list = c .before .before .before .before .read-list in
+    let n = c .before .before .n in
+    rw (← read-list .ensures, n .given .1, ← title-none (start .args .file .now) (start .args .at + 5) (start .args .at + (4 + n .given .0 .0)) (omega (arith, c .if1 .taken)))
 
 -- the piece ends within what it is read from
 fits : (c : lts.After-known-told (read-list-reads.Asked, read-list-reads.Learnt, title-view-reads.Asked, title-view-reads.Learnt) reads.Pre reads.Post)
     → c .before .before .before .before .before .before .args .at + (4 + c .before .n .given .0 .0) ≤ c .before .before .before .before .before .before .args .end
-fits c = piece-fits (c .before .before .before .before .before .before .args .file .now) (c .before .before .before .before .before .before .args .at) (c .before .before .before .before .before .before .args .end) (c .before .n .given .0 .0) (c .before .before .before .read-list .ensures) (c .before .n .given .1)
+fits c =
+    let start = c .before .before .before .before .before .before in
+    let read-list = c .before .before .before .read-list in
+    piece-fits (start .args .file .now) (start .args .at) (start .args .end) (c .before .n .given .0 .0) (read-list .ensures) (c .before .n .given .1)
 
 add-title-view-2 : tie.Need-add-title-view-2
 add-title-view-2 c = omega (arith, fits (c .before))

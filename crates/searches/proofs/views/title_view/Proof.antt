@@ -17,7 +17,10 @@ returns c = rw (← c .before .before .read-heading .ensures, c .enum-told .give
 -- the parts lie in order within the bytes that the heading was read from
 order : (c : lts.After-known-told (read-heading-reads.Asked, read-heading-reads.Learnt) reads.Pre reads.Post)
     → ViewOrder (places (c .before .h .given .0 .0) (c .before .before .before .before .before .before .args .name) (c .before .before .before .before .before .before .args .end))
-order c = places-order (c .before .before .before .before .before .before .args .file .now) (c .before .before .before .before .before .before .args .name) (c .before .before .before .before .before .before .args .end) (c .before .h .given .0 .0) (c .before .before .before .read-heading .ensures) (c .before .h .given .1)
+order c =
+    let start = c .before .before .before .before .before .before in
+    let read-heading = c .before .before .before .read-heading in
+    places-order (start .args .file .now) (start .args .name) (start .args .end) (c .before .h .given .0 .0) (read-heading .ensures) (c .before .h .given .1)
 
 add-t7 : tie.Need-add-t7
 add-t7 c = let o = order (c .before) in omega arith

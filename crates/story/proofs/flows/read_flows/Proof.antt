@@ -44,9 +44,14 @@ read-flow-requires c κs = omega (arith, fits (c .before), c .read-flow-arg .giv
 returns-2 : tie.Need-returns-2 Inv-loop μ-loop
 unfolding flows
 returns-2 c =
-    rw (c .before .before .before .before .before .before .before .before .before .loop .inv .1)
-    (pieces-other flow (c .before .before .before .before .before .before .before .before .before .loop .t .now) (c .before .before .before .before .before .n .given .0 .0) (c .before .before .before .before .before .before .before .before .loop-test .taken) (c .before .before .before .before .before .before .before .read-list .ensures) (c .before .before .before .before .before .n .given .1) (c .before .before .read-flow .ensures)
-    (not-well (tagOf the-type) refl (c .before .before .read-flow .result) (c .before .match2 .keys2)))
+    let loop = c .before .before .before .before .before .before .before .before .before .loop in
+    let loop-test = c .before .before .before .before .before .before .before .before .loop-test in
+    let read-list = c .before .before .before .before .before .before .before .read-list in
+    let n = c .before .before .before .before .before .n in
+    let read-flow = c .before .before .read-flow in
+    rw (loop .inv .1)
+    (pieces-other flow (loop .t .now) (n .given .0 .0) (loop-test .taken) (read-list .ensures) (n .given .1) (read-flow .ensures)
+    (not-well (tagOf the-type) refl (read-flow .result) (c .before .match2 .keys2)))
 
 sub-t : tie.Need-sub-t Inv-loop μ-loop
 sub-t c = fits (c .before .before .before .before)
@@ -58,10 +63,15 @@ loop-less : tie.Need-loop-less Inv-loop μ-loop
 loop-less c = omega (arith, fits (c .before .before .before .before .before), c .t .given .2)
 
 loop-again : tie.Need-loop-again Inv-loop μ-loop
-loop-again c = (
-  omega (arith, fits (c .before .before .before .before .before), c .t .given .2, c .before .before .before .before .before .before .before .before .before .before .loop .inv .0),
-  c .before .before .before .before .before .before .before .before .before .before .loop .inv .1 ∙ pieces-on flow (c .before .before .before .before .before .before .before .before .before .before .loop .t .now) (c .before .before .before .before .before .before .n .given .0 .0) (c .before .before .before .before .before .before .before .before .before .loop-test .taken) (c .before .before .before .before .before .before .before .before .read-list .ensures) (c .before .before .before .before .before .before .n .given .1) (c .before .before .before .read-flow .ensures) (c .before .enum-told2 .given .1),
-)
+loop-again c =
+    let loop = c .before .before .before .before .before .before .before .before .before .before .loop in
+    let loop-test = c .before .before .before .before .before .before .before .before .before .loop-test in
+    let read-list = c .before .before .before .before .before .before .before .before .read-list in
+    let n = c .before .before .before .before .before .before .n in
+    let read-flow = c .before .before .before .read-flow in (
+      omega (arith, fits (c .before .before .before .before .before), c .t .given .2, loop .inv .0),
+      loop .inv .1 ∙ pieces-on flow (loop .t .now) (n .given .0 .0) (loop-test .taken) (read-list .ensures) (n .given .1) (read-flow .ensures) (c .before .enum-told2 .given .1),
+    )
 
 returns-3 : tie.Need-returns-3 Inv-loop μ-loop
 unfolding endOf flows

@@ -41,10 +41,14 @@ loop-less : tie.Need-loop-less Inv-loop μ-loop
 loop-less c = omega (arith, fits (c .before), c .t .given .2)
 
 loop-again : tie.Need-loop-again Inv-loop μ-loop
-loop-again c = (
-  omega (arith, fits (c .before), c .t .given .2, c .before .before .before .before .before .before .loop .inv .0),
-  c .before .before .before .before .before .before .loop .inv .1 ∙ rw (to-end (1 + c .before .before .answer2 .given .0 .0) (c .before .before .before .before .before .before .loop .t .now)) (names-on (c .before .before .before .before .before .before .loop .t .now) (c .before .before .answer2 .given .0 .0) (c .before .before .before .before .before .loop-test .taken) (c .before .before .before .before .read-name .ensures) (c .before .before .answer2 .given .1)),
-)
+loop-again c =
+    let loop = c .before .before .before .before .before .before .loop in
+    let loop-test = c .before .before .before .before .before .loop-test in
+    let read-name = c .before .before .before .before .read-name in
+    let answer2 = c .before .before .answer2 in (
+      omega (arith, fits (c .before), c .t .given .2, loop .inv .0),
+      loop .inv .1 ∙ rw (to-end (1 + answer2 .given .0 .0) (loop .t .now)) (names-on (loop .t .now) (answer2 .given .0 .0) (loop-test .taken) (read-name .ensures) (answer2 .given .1)),
+    )
 
 returns-2 : tie.Need-returns-2 Inv-loop μ-loop
 unfolding endOf

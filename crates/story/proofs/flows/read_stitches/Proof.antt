@@ -6,8 +6,7 @@ use lib.ListN.{length}
 use denote.Enum.Declared.{tagOf}
 use Rattle.fields.proofs.Laws.{list-fits}
 use Rattle.records.specs.Trace.{ends}
-use Rattle.records.specs.Grammar.{repeat}
-use Rattle.story.specs.Flows.{piece, stitch}
+use Rattle.story.specs.Flows.{stitch, stitches}
 use Rattle.story.specs.Endings.{endOf}
 use Rattle.story.proofs.Ended.{the-type}
 use Rattle.story.proofs.Endings.{not-well}
@@ -17,7 +16,7 @@ use Rattle.story.proofs.flows.read_stitches.Statement.{statement}
 use Rattle.story.proofs.flows.read_stitches.Tie as tie
 
 abbrev Inv-loop : tie.InvT-loop
-Inv-loop s t₀ t = (length t ≤ length s) × (ends (repeat (piece stitch) s) ≡ ends (repeat (piece stitch) t))
+Inv-loop s t₀ t = (length t ≤ length s) × (ends (stitches s) ≡ ends (stitches t))
 
 abbrev μ-loop : tie.MeasureT-loop
 μ-loop s t₀ t = length t
@@ -43,9 +42,14 @@ read-stitch-requires c κs = omega (arith, fits (c .before), c .read-stitch-arg 
 
 returns-2 : tie.Need-returns-2 Inv-loop μ-loop
 returns-2 c =
-    rw (c .before .before .before .before .before .before .before .before .before .loop .inv .1)
-    (pieces-other stitch (c .before .before .before .before .before .before .before .before .before .loop .t .now) (c .before .before .before .before .before .n .given .0 .0) (c .before .before .before .before .before .before .before .before .loop-test .taken) (c .before .before .before .before .before .before .before .read-list .ensures) (c .before .before .before .before .before .n .given .1) (c .before .before .read-stitch .ensures)
-    (not-well (tagOf the-type) refl (c .before .before .read-stitch .result) (c .before .match2 .keys2)))
+    let loop = c .before .before .before .before .before .before .before .before .before .loop in
+    let loop-test = c .before .before .before .before .before .before .before .before .loop-test in
+    let read-list = c .before .before .before .before .before .before .before .read-list in
+    let n = c .before .before .before .before .before .n in
+    let read-stitch = c .before .before .read-stitch in
+    rw (loop .inv .1)
+    (pieces-other stitch (loop .t .now) (n .given .0 .0) (loop-test .taken) (read-list .ensures) (n .given .1) (read-stitch .ensures)
+    (not-well (tagOf the-type) refl (read-stitch .result) (c .before .match2 .keys2)))
 
 sub-t : tie.Need-sub-t Inv-loop μ-loop
 sub-t c = fits (c .before .before .before .before)
@@ -57,10 +61,15 @@ loop-less : tie.Need-loop-less Inv-loop μ-loop
 loop-less c = omega (arith, fits (c .before .before .before .before .before), c .t .given .2)
 
 loop-again : tie.Need-loop-again Inv-loop μ-loop
-loop-again c = (
-  omega (arith, fits (c .before .before .before .before .before), c .t .given .2, c .before .before .before .before .before .before .before .before .before .before .loop .inv .0),
-  c .before .before .before .before .before .before .before .before .before .before .loop .inv .1 ∙ pieces-on stitch (c .before .before .before .before .before .before .before .before .before .before .loop .t .now) (c .before .before .before .before .before .before .n .given .0 .0) (c .before .before .before .before .before .before .before .before .before .loop-test .taken) (c .before .before .before .before .before .before .before .before .read-list .ensures) (c .before .before .before .before .before .before .n .given .1) (c .before .before .before .read-stitch .ensures) (c .before .enum-told2 .given .1),
-)
+loop-again c =
+    let loop = c .before .before .before .before .before .before .before .before .before .before .loop in
+    let loop-test = c .before .before .before .before .before .before .before .before .before .loop-test in
+    let read-list = c .before .before .before .before .before .before .before .before .read-list in
+    let n = c .before .before .before .before .before .before .n in
+    let read-stitch = c .before .before .before .read-stitch in (
+      omega (arith, fits (c .before .before .before .before .before), c .t .given .2, loop .inv .0),
+      loop .inv .1 ∙ pieces-on stitch (loop .t .now) (n .given .0 .0) (loop-test .taken) (read-list .ensures) (n .given .1) (read-stitch .ensures) (c .before .enum-told2 .given .1),
+    )
 
 returns-3 : tie.Need-returns-3 Inv-loop μ-loop
 unfolding endOf

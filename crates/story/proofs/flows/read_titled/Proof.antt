@@ -26,11 +26,18 @@ returns c = title-refused (c .before .before .before .before .before .args .s .n
 
 returns-2 : tie.Need-returns-2
 returns-2 c =
-    title-nodes-refused (c .before .before .before .before .before .before .before .before .before .before .args .s .now) (c .before .before .before .before .before .before .answer2 .given .0 .0) (c .before .before .before .before .before .before .before .before .read-heading .ensures) (c .before .before .before .before .before .before .answer2 .given .1) (c .before .before .before .read-nodes .ensures) (c .before .ended .given .1)
+    let start = c .before .before .before .before .before .before .before .before .before .before in
+    let read-heading = c .before .before .before .before .before .before .before .before .read-heading in
+    let answer2 = c .before .before .before .before .before .before .answer2 in
+    let read-nodes = c .before .before .before .read-nodes in
+    title-nodes-refused (start .args .s .now) (answer2 .given .0 .0) (read-heading .ensures) (answer2 .given .1) (read-nodes .ensures) (c .before .ended .given .1)
 
 returns-3 : tie.Need-returns-3
 returns-3 c =
-    title-well (c .before .before .before .before .before .before .before .before .before .args .s .now) (c .before .before .before .before .before .answer2 .given .0 .0) (c .before .before .before .before .before .before .before .read-heading .ensures) (c .before .before .before .before .before .answer2 .given .1) (c .before .before .read-nodes .ensures) (c .enum-told .given .1)
+    let start = c .before .before .before .before .before .before .before .before .before in
+    let read-heading = c .before .before .before .before .before .before .before .read-heading in
+    let answer2 = c .before .before .before .before .before .answer2 in
+    title-well (start .args .s .now) (answer2 .given .0 .0) (read-heading .ensures) (answer2 .given .1) (c .before .before .read-nodes .ensures) (c .enum-told .given .1)
 
 pub read-titled-spec : {M : Type 1} → statement M
 read-titled-spec = tie.close (tie.spec (λ c κs. search needs) (λ c. search needs) (λ c. search needs) sub-read-nodes part-read-nodes-start part-read-nodes-end read-nodes-requires (λ c. search needs) (λ c. search needs) returns returns-2 returns-3)

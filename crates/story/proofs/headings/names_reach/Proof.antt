@@ -21,7 +21,11 @@ loop-holds c = (omega arith, refl)
 
 returns : tie.Need-returns Inv-loop μ-loop
 returns c =
-    rw (c .before .before .before .before .before .before .loop .inv .1) (reach-refused (c .before .before .before .before .before .before .before .before .args .s .now) (c .before .before .before .before .before .before .loop .left) (c .before .before .before .before .before .before .loop .e) (c .before .before .before .before .before .loop-test .taken) (c .before .before .before .read-name .ensures) (c .before .answer .given .1))
+    let start = c .before .before .before .before .before .before .before .before in
+    let loop = c .before .before .before .before .before .before .loop in
+    let loop-test = c .before .before .before .before .before .loop-test in
+    let read-name = c .before .before .before .read-name in
+    rw (loop .inv .1) (reach-refused (start .args .s .now) (loop .left) (loop .e) (loop-test .taken) (read-name .ensures) (c .before .answer .given .1))
 
 -- the name fits what is left of the bytes
 fits : (c : tie.After-known-told2 Inv-loop μ-loop) → c .before .before .before .before .before .before .loop .e + (1 + c .before .answer2 .given .0 .0) ≤ length (c .before .before .before .before .before .before .before .before .args .s .now)
@@ -35,7 +39,11 @@ add-e-2 c = omega (arith, fits c)
 
 loop-again : tie.Need-loop-again Inv-loop μ-loop
 loop-again c =
-    (fits c, c .before .before .before .before .before .before .loop .inv .1 ∙ reach-on (c .before .before .before .before .before .before .before .before .args .s .now) (c .before .before .before .before .before .before .loop .left) (c .before .before .before .before .before .before .loop .e) (c .before .answer2 .given .0 .0) (c .before .before .before .before .before .loop-test .taken) (c .before .before .before .read-name .ensures) (c .before .answer2 .given .1))
+    let start = c .before .before .before .before .before .before .before .before in
+    let loop = c .before .before .before .before .before .before .loop in
+    let loop-test = c .before .before .before .before .before .loop-test in
+    let read-name = c .before .before .before .read-name in
+    (fits c, loop .inv .1 ∙ reach-on (start .args .s .now) (loop .left) (loop .e) (c .before .answer2 .given .0 .0) (loop-test .taken) (read-name .ensures) (c .before .answer2 .given .1))
 
 returns-2 : tie.Need-returns-2 Inv-loop μ-loop
 returns-2 c = rw (c .before .loop .inv .1) (reach-end (c .before .before .before .args .s .now) (c .before .loop .left) (c .before .loop .e) (c .loop-test .left))

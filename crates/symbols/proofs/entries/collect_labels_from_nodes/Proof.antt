@@ -1,7 +1,7 @@
 -- `symbols::entries::collect_labels_from_nodes` meets its contract. The loop's invariant: what is left to be stored are the labels
 -- from item number `i` on, and the buffer has a window that begins no later. Assumes nothing.
 use mathlib.Core.Path.{_≡_}
-use Prim.Native.Nat.{_≤_, _-_, _*_, _+_}
+use Prim.Native.Nat.{_≤_, _-_, _*_}
 use native.Mathlib.Omega.{arith}
 use lib.ListN.{length, drop}
 use Rattle.bodies.specs.Bodies.{bodyIn, Fetched}
@@ -56,7 +56,12 @@ slice-read-put-label : tie.Need-slice-read-put-label Inv-loop μ-loop
 slice-read-put-label c = search needs
 
 put-label-requires : tie.Need-put-label-requires Inv-loop μ-loop
-put-label-requires c κs = item-placed (c .before .before .before .before .before .before .before .before .before .before .before .before .before .before .before .before .pre .0) (c .before .before .before .before .before .before .before .before .loop .i) _ _ (fetched-item (c .before .before .before .before .before .fetch .ensures) (omega (arith, c .before .before .before .before .before .before .before .before .before .before .before .count-items .ensures .counts)))
+put-label-requires c κs =
+    let start = c .before .before .before .before .before .before .before .before .before .before .before .before .before .before .before .before in
+    let count-items = c .before .before .before .before .before .before .before .before .before .before .before .count-items in
+    let loop = c .before .before .before .before .before .before .before .before .loop in
+    let fetch = c .before .before .before .before .before .fetch in
+    item-placed (start .pre .0) (loop .i) _ _ (fetched-item (fetch .ensures) (omega (arith, count-items .ensures .counts)))
 
 add-i : tie.Need-add-i Inv-loop μ-loop
 add-i c = search needs
@@ -65,13 +70,17 @@ loop-less : tie.Need-loop-less Inv-loop μ-loop
 loop-less c = search needs
 
 loop-again : tie.Need-loop-again Inv-loop μ-loop
-loop-again c = (
-  omega (arith, c .before .before .before .before .before .before .before .before .fetch .ensures .early, c .before .before .before .before .before .before .before .before .fetch .ensures .room),
-  c .before .before .before .before .before .before .before .before .fetch .ensures .window,
-  storing-many (c .before .before .before .before .before .before .before .before .before .before .before .loop .inv .2) _
-      (labels-next _ _ (bodyIn (c .before .before .before .before .before .before .before .before .before .before .before .before .before .before .before .before .before .before .before .args .file .now) (c .before .before .before .before .before .before .before .before .before .before .before .before .before .before .before .before .before .before .before .args .from) (c .before .before .before .before .before .before .before .before .before .before .before .before .before .before .before .before .before .before .before .args .to)) (c .before .before .before .before .before .before .before .before .before .before .before .loop .i) (fetched-item (c .before .before .before .before .before .before .before .before .fetch .ensures) (omega (arith, c .before .before .before .before .before .before .before .before .before .before .before .before .before .before .count-items .ensures .counts))))
-      (c .before .before .put-label .ensures),
-)
+loop-again c =
+    let start = c .before .before .before .before .before .before .before .before .before .before .before .before .before .before .before .before .before .before .before in
+    let count-items = c .before .before .before .before .before .before .before .before .before .before .before .before .before .before .count-items in
+    let loop = c .before .before .before .before .before .before .before .before .before .before .before .loop in
+    let fetch = c .before .before .before .before .before .before .before .before .fetch in (
+      omega (arith, fetch .ensures .early, fetch .ensures .room),
+      fetch .ensures .window,
+      storing-many (loop .inv .2) _
+          (labels-next _ _ (bodyIn (start .args .file .now) (start .args .from) (start .args .to)) (loop .i) (fetched-item (fetch .ensures) (omega (arith, count-items .ensures .counts))))
+          (c .before .before .put-label .ensures),
+    )
 
 same-length : tie.Need-same-length Inv-loop μ-loop
 same-length c = search needs
@@ -80,7 +89,10 @@ same-length-2 : tie.Need-same-length-2 Inv-loop μ-loop
 same-length-2 c = search needs
 
 returns : tie.Need-returns Inv-loop μ-loop
-returns c = storing-end (c .before .loop .inv .2) (labels-end _ _ (bodyIn (c .before .before .before .before .before .before .before .before .before .args .file .now) (c .before .before .before .before .before .before .before .before .before .args .from) (c .before .before .before .before .before .before .before .before .before .args .to)) (c .before .loop .i) (omega (arith, c .before .before .before .before .count-items .ensures .counts)))
+returns c =
+    let start = c .before .before .before .before .before .before .before .before .before in
+    let count-items = c .before .before .before .before .count-items in
+    storing-end (c .before .loop .inv .2) (labels-end _ _ (bodyIn (start .args .file .now) (start .args .from) (start .args .to)) (c .before .loop .i) (omega (arith, count-items .ensures .counts)))
 
 pub collect-labels-from-nodes-spec : {M : Type 1} → statement M
 collect-labels-from-nodes-spec =

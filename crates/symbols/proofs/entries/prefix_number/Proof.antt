@@ -1,5 +1,5 @@
 -- `symbols::entries::prefix_number` meets its contract, by the name's length. Assumes nothing.
-use mathlib.Core.Path.{_≡_, sym, _∙_, ap, refl}
+use mathlib.Core.Path.{_≡_, ap, refl}
 use mathlib.Core.List.{List, [], _∷_}
 use Prim.Native.Nat.{ℕ}
 use native.Mathlib.Omega.{arith}

@@ -22,7 +22,9 @@ collect-labels-from-nodes-requires : tie.Need-collect-labels-from-nodes-requires
 collect-labels-from-nodes-requires c κs = search needs
 
 put-stitches-requires : tie.Need-put-stitches-requires
-put-stitches-requires c κs = (c .before .before .before .before .before .before .before .before .before .before .before .before .before .before .before .before .before .before .before .before .before .before .pre .0 .3, (c .before .before .before .before .before .before .before .before .before .before .before .before .before .before .before .before .before .before .before .before .before .before .pre .1 .0, omega (arith, c .before .before .before .before .before .before .before .before .before .before .before .before .before .before .before .before .before .before .before .before .before .before .pre .1 .1)))
+put-stitches-requires c κs =
+    let start = c .before .before .before .before .before .before .before .before .before .before .before .before .before .before .before .before .before .before .before .before .before .before in
+    (start .pre .0 .3, (start .pre .1 .0, omega (arith, start .pre .1 .1)))
 
 same-length : tie.Need-same-length
 same-length c = search needs
@@ -31,7 +33,14 @@ same-length-2 : tie.Need-same-length-2
 same-length-2 c = search needs
 
 returns : tie.Need-returns
-returns c = flow-stored _ (viewedFlow (c .before .before .before .before .before .before .before .before .before .before .before .before .before .before .before .before .before .before .before .before .before .before .before .before .before .before .before .args .file .now) (c .before .before .before .before .before .before .before .before .before .before .before .before .before .before .before .before .before .before .before .before .before .before .before .before .before .before .before .args .v)) (c .before .before .before .before .before .before .before .before .before .before .before .before .before .before .before .before .before .before .before .before .before .put-entry .ensures) (c .before .before .before .before .before .before .before .before .before .before .before .before .before .before .before .before .before .put-params .ensures) (c .before .before .before .before .before .before .before .before .before .before .before .before .before .before .prefix-number .ensures) (c .before .before .before .before .before .before .before .before .before .before .before .collect-labels-from-nodes .ensures) (c .before .before .before .before .put-stitches .ensures)
+returns c =
+    let start = c .before .before .before .before .before .before .before .before .before .before .before .before .before .before .before .before .before .before .before .before .before .before .before .before .before .before .before in
+    let put-entry = c .before .before .before .before .before .before .before .before .before .before .before .before .before .before .before .before .before .before .before .before .before .put-entry in
+    let put-params = c .before .before .before .before .before .before .before .before .before .before .before .before .before .before .before .before .before .put-params in
+    let prefix-number = c .before .before .before .before .before .before .before .before .before .before .before .before .before .before .prefix-number in
+    let collect-labels-from-nodes = c .before .before .before .before .before .before .before .before .before .before .before .collect-labels-from-nodes in
+    let put-stitches = c .before .before .before .before .put-stitches in
+    flow-stored _ (viewedFlow (start .args .file .now) (start .args .v)) (put-entry .ensures) (put-params .ensures) (prefix-number .ensures) (collect-labels-from-nodes .ensures) (put-stitches .ensures)
 
 pub put-flow-spec : {M : Type 1} → statement M
 put-flow-spec =

@@ -1,6 +1,6 @@
 -- `symbols::entries::put_flows` meets its contract. The loop's invariant: what is left to be stored are the flows from `at` on,
 -- and they can be read. Assumes nothing.
-use mathlib.Core.Path.{_≡_, ap, refl, _∙_}
+use mathlib.Core.Path.{_≡_, refl}
 use Prim.Native.Nat.{_≤_, _-_}
 use native.Mathlib.Omega.{arith}
 use lib.ListN.{length}
@@ -45,31 +45,48 @@ same-length-2 : tie.Need-same-length-2 Inv-loop μ-loop
 same-length-2 c = search needs
 
 returns : tie.Need-returns Inv-loop μ-loop
-returns c = storing-end (c .before .before .before .loop .inv .2) (flows-none (no-flow (c .before .before .before .before .before .before .before .args .file .now) (c .before .before .before .loop .at) (c .before .before .before .before .before .before .before .args .end) (c .before .before .before .loop .inv .1) (c .before .before .flow-view .ensures) (c .enum-told .given .1)))
+returns c =
+    let start = c .before .before .before .before .before .before .before in
+    let loop = c .before .before .before .loop in
+    storing-end (loop .inv .2) (flows-none (no-flow (start .args .file .now) (loop .at) (start .args .end) (loop .inv .1) (c .before .before .flow-view .ensures) (c .enum-told .given .1)))
 
 put-flow-requires : tie.Need-put-flow-requires Inv-loop μ-loop
 put-flow-requires c κs =
-    let l = flow-laid (c .before .before .before .before .before .before .before .before .before .before .args .file .now) (c .before .before .before .before .before .before .loop .at) (c .before .before .before .before .before .before .before .before .before .before .args .end) (c .before .before .before .v .given .0 .0) (c .before .before .before .before .before .flow-view .ensures) (c .before .before .before .v .given .1) in (
+    let start = c .before .before .before .before .before .before .before .before .before .before in
+    let loop = c .before .before .before .before .before .before .loop in
+    let flow-view = c .before .before .before .before .before .flow-view in
+    let v = c .before .before .before .v in
+    let l = flow-laid (start .args .file .now) (loop .at) (start .args .end) (v .given .0 .0) (flow-view .ensures) (v .given .1) in (
       (
         l .name,
         omega arith,
-        record { ordered = l .from; within = omega (arith, c .before .before .before .before .before .before .before .before .before .before .pre .0 .within); short = c .before .before .before .before .before .before .before .before .before .before .pre .0 .short },
-        record { ordered = l .stitches; within = omega (arith, c .before .before .before .before .before .before .before .before .before .before .pre .0 .within); short = c .before .before .before .before .before .before .before .before .before .before .pre .0 .short },
+        record { ordered = l .from; within = omega (arith, start .pre .0 .within); short = start .pre .0 .short },
+        record { ordered = l .stitches; within = omega (arith, start .pre .0 .within); short = start .pre .0 .short },
       ),
-      (flow-readable (c .before .before .before .before .before .before .before .before .before .before .args .file .now) (c .before .before .before .before .before .before .loop .at) (c .before .before .before .before .before .before .before .before .before .before .args .end) (c .before .before .before .before .before .before .loop .inv .1) (c .before .before .before .before .before .flow-view .ensures) (c .before .before .before .v .given .0 .0) (c .before .before .before .v .given .1) .own, omega (arith, c .before .before .before .before .before .before .loop .inv .0, c .before .before .before .before .before .before .before .before .before .before .pre .1 .1)),
+      (flow-readable (start .args .file .now) (loop .at) (start .args .end) (loop .inv .1) (flow-view .ensures) (v .given .0 .0) (v .given .1) .own, omega (arith, loop .inv .0, start .pre .1 .1)),
     )
 
 loop-less : tie.Need-loop-less Inv-loop μ-loop
-loop-less c = let l = flow-laid (c .before .before .before .before .before .before .before .before .before .before .before .before .before .before .before .args .file .now) (c .before .before .before .before .before .before .before .before .before .before .before .loop .at) (c .before .before .before .before .before .before .before .before .before .before .before .before .before .before .before .args .end) (c .before .before .before .before .before .before .before .before .v .given .0 .0) (c .before .before .before .before .before .before .before .before .before .before .flow-view .ensures) (c .before .before .before .before .before .before .before .before .v .given .1) in omega (arith, c .before .before .before .before .before .before .before .before .before .before .before .loop .inv .0)
+loop-less c =
+    let start = c .before .before .before .before .before .before .before .before .before .before .before .before .before .before .before in
+    let loop = c .before .before .before .before .before .before .before .before .before .before .before .loop in
+    let flow-view = c .before .before .before .before .before .before .before .before .before .before .flow-view in
+    let v = c .before .before .before .before .before .before .before .before .v in
+    let l = flow-laid (start .args .file .now) (loop .at) (start .args .end) (v .given .0 .0) (flow-view .ensures) (v .given .1) in omega (arith, loop .inv .0)
 
 loop-again : tie.Need-loop-again Inv-loop μ-loop
 loop-again c =
-    let l = flow-laid (c .before .before .before .before .before .before .before .before .before .before .before .before .before .before .before .args .file .now) (c .before .before .before .before .before .before .before .before .before .before .before .loop .at) (c .before .before .before .before .before .before .before .before .before .before .before .before .before .before .before .args .end) (c .before .before .before .before .before .before .before .before .v .given .0 .0) (c .before .before .before .before .before .before .before .before .before .before .flow-view .ensures) (c .before .before .before .before .before .before .before .before .v .given .1) in (
-      omega (arith, c .before .before .before .before .before .before .before .before .before .before .before .loop .inv .0),
-      flow-readable (c .before .before .before .before .before .before .before .before .before .before .before .before .before .before .before .args .file .now) (c .before .before .before .before .before .before .before .before .before .before .before .loop .at) (c .before .before .before .before .before .before .before .before .before .before .before .before .before .before .before .args .end) (c .before .before .before .before .before .before .before .before .before .before .before .loop .inv .1) (c .before .before .before .before .before .before .before .before .before .before .flow-view .ensures) (c .before .before .before .before .before .before .before .before .v .given .0 .0) (c .before .before .before .before .before .before .before .before .v .given .1) .rest,
-      storing-many (c .before .before .before .before .before .before .before .before .before .before .before .loop .inv .2) _
-          (flows-next (flow-viewed (c .before .before .before .before .before .before .before .before .before .before .before .before .before .before .before .args .file .now) (c .before .before .before .before .before .before .before .before .before .before .before .loop .at) (c .before .before .before .before .before .before .before .before .before .before .before .before .before .before .before .args .end) (c .before .before .before .before .before .before .before .before .v .given .0 .0) (c .before .before .before .before .before .before .before .before .before .before .flow-view .ensures) (c .before .before .before .before .before .before .before .before .v .given .1)))
-          (c .before .before .before .before .put-flow .ensures),
+    let start = c .before .before .before .before .before .before .before .before .before .before .before .before .before .before .before in
+    let loop = c .before .before .before .before .before .before .before .before .before .before .before .loop in
+    let flow-view = c .before .before .before .before .before .before .before .before .before .before .flow-view in
+    let v = c .before .before .before .before .before .before .before .before .v in
+    let put-flow = c .before .before .before .before .put-flow in
+    let l = flow-laid (start .args .file .now) (loop .at) (start .args .end) (v .given .0 .0) (flow-view .ensures) (v .given .1) in (
+      omega (arith, loop .inv .0),
+      flow-readable (start .args .file .now) (loop .at) (start .args .end) (loop .inv .1) (flow-view .ensures) (v .given .0 .0) (v .given .1) .rest,
+      storing-many (loop .inv .2) _
+          (flows-next (flow-viewed (start .args .file .now) (loop .at) (start .args .end) (v .given .0 .0) (flow-view .ensures) (v .given .1)))
+          (put-flow .ensures),
     )
 
 pub put-flows-spec : {M : Type 1} → statement M

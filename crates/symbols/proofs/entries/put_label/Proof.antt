@@ -22,10 +22,17 @@ same-length : tie.Need-same-length
 same-length c = search needs
 
 returns : tie.Need-returns
-returns c = label-stored (c .before .before .before .before .before .before .before .before .before .args .flow) (c .before .before .before .before .before .before .before .before .before .args .stitch) (itemFrom (c .before .before .before .before .before .before .before .before .before .args .file .now) (c .before .before .before .before .before .before .before .before .before .args .place) (c .before .before .before .before .before .before .before .before .before .args .tag)) (c .before .before .before .before .before .before .is-labelled .ensures) _ (c .before .before .before .before .before .if1 .taken) (c .before .before .before .before .named-at .ensures) (c .before .before .put-entry .ensures)
+returns c =
+    let start = c .before .before .before .before .before .before .before .before .before in
+    let is-labelled = c .before .before .before .before .before .before .is-labelled in
+    let if1 = c .before .before .before .before .before .if1 in
+    let named-at = c .before .before .before .before .named-at in
+    label-stored (start .args .flow) (start .args .stitch) (itemFrom (start .args .file .now) (start .args .place) (start .args .tag)) (is-labelled .ensures) _ (if1 .taken) (named-at .ensures) (c .before .before .put-entry .ensures)
 
 returns-2 : tie.Need-returns-2
-returns-2 c = label-passed (c .before .before .before .before .args .flow) (c .before .before .before .before .args .stitch) (itemFrom (c .before .before .before .before .args .file .now) (c .before .before .before .before .args .place) (c .before .before .before .before .args .tag)) (c .before .is-labelled .ensures) _ (c .if1 .left)
+returns-2 c =
+    let start = c .before .before .before .before in
+    label-passed (start .args .flow) (start .args .stitch) (itemFrom (start .args .file .now) (start .args .place) (start .args .tag)) (c .before .is-labelled .ensures) _ (c .if1 .left)
 
 pub put-label-spec : {M : Type 1} → statement M
 put-label-spec =

@@ -1,5 +1,5 @@
 -- `symbols::entries::put_names` meets its contract. The loop's invariant: what is left to be stored are the names from `at` on. Assumes nothing.
-use mathlib.Core.Path.{_≡_, refl, _∙_, ap}
+use mathlib.Core.Path.{_≡_, refl}
 use native.Mathlib.Omega.{arith}
 use lib.ListN.{length}
 use Rattle.story.specs.Flows.{namesN, part}
@@ -52,7 +52,11 @@ loop-less : tie.Need-loop-less Inv-loop μ-loop
 loop-less c = search needs
 
 loop-again : tie.Need-loop-again Inv-loop μ-loop
-loop-again c = (omega arith, storing-one (c .before .before .before .before .before .before .before .loop .inv .1) (names-on (c .before .before .before .before .before .before .before .before .before .before .args .file .now) (c .before .before .before .before .before .before .before .loop .left) (c .before .before .before .before .before .before .before .loop .at) (c .before .before .before .before .before .before .before .before .before .before .args .end) (omega arith) (omega arith) (omega arith)) (c .before .before .before .put-entry .ensures))
+loop-again c =
+    let start = c .before .before .before .before .before .before .before .before .before .before in
+    let loop = c .before .before .before .before .before .before .before .loop in
+    let put-entry = c .before .before .before .put-entry in
+    (omega arith, storing-one (loop .inv .1) (names-on (start .args .file .now) (loop .left) (loop .at) (start .args .end) (omega arith) (omega arith) (omega arith)) (put-entry .ensures))
 
 same-length-2 : tie.Need-same-length-2 Inv-loop μ-loop
 same-length-2 c = c .before .loop .inv .0

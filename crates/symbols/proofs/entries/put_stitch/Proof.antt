@@ -24,7 +24,12 @@ same-length-2 : tie.Need-same-length-2
 same-length-2 c = search needs
 
 returns : tie.Need-returns
-returns c = stitch-stored _ (c .before .before .before .before .before .before .before .before .before .before .before .before .before .before .before .before .before .before .before .args .flow) (viewedStitch (c .before .before .before .before .before .before .before .before .before .before .before .before .before .before .before .before .before .before .before .args .file .now) (c .before .before .before .before .before .before .before .before .before .before .before .before .before .before .before .before .before .before .before .args .v)) (c .before .before .before .before .before .before .before .before .before .before .before .before .before .put-entry .ensures) (c .before .before .before .before .before .before .before .before .before .put-params .ensures) (c .before .before .before .before .collect-labels-from-nodes .ensures)
+returns c =
+    let start = c .before .before .before .before .before .before .before .before .before .before .before .before .before .before .before .before .before .before .before in
+    let put-entry = c .before .before .before .before .before .before .before .before .before .before .before .before .before .put-entry in
+    let put-params = c .before .before .before .before .before .before .before .before .before .put-params in
+    let collect-labels-from-nodes = c .before .before .before .before .collect-labels-from-nodes in
+    stitch-stored _ (start .args .flow) (viewedStitch (start .args .file .now) (start .args .v)) (put-entry .ensures) (put-params .ensures) (collect-labels-from-nodes .ensures)
 
 pub put-stitch-spec : {M : Type 1} → statement M
 put-stitch-spec =

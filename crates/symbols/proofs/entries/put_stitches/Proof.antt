@@ -6,8 +6,7 @@ use native.Mathlib.Omega.{arith}
 use lib.ListN.{length}
 use Rattle.names.specs.Words.{each}
 use Rattle.records.specs.Trace.{well, ends}
-use Rattle.records.specs.Grammar.{repeat}
-use Rattle.story.specs.Flows.{part, piece, stitch, piecesIn, stitchIn}
+use Rattle.story.specs.Flows.{part, piecesIn, stitchIn, stitches}
 use Rattle.searches.proofs.Viewed.{stitch-viewed, stitch-laid}
 use Rattle.searches.proofs.Readable.{no-stitch, stitch-readable}
 use Rattle.symbols.specs.Placed.{stitchPlaced}
@@ -19,7 +18,7 @@ use Rattle.symbols.proofs.entries.put_stitches.Tie as tie
 abbrev Inv-loop : tie.InvT-loop
 Inv-loop file from end flow index₀ n batch₀ at₀ count₀ index batch at count =
     ((at ≤ end) × (length index ≡ length index₀) × (length batch ≡ length batch₀))
-    × (ends (repeat (piece stitch) (part at end file)) ≡ well)
+    × (ends (stitches (part at end file)) ≡ well)
     × Storing index₀ n (each (stitchPlaced flow) (piecesIn stitchIn from (part from end file))) index count (each (stitchPlaced flow) (piecesIn stitchIn at (part at end file)))
 
 abbrev μ-loop : tie.MeasureT-loop
@@ -44,30 +43,47 @@ same-length-2 : tie.Need-same-length-2 Inv-loop μ-loop
 same-length-2 c = search needs
 
 returns : tie.Need-returns Inv-loop μ-loop
-returns c = storing-end (c .before .before .before .loop .inv .2) (ap (each (stitchPlaced (c .before .before .before .before .before .before .before .args .flow))) (no-stitch (c .before .before .before .before .before .before .before .args .file .now) (c .before .before .before .loop .at) (c .before .before .before .before .before .before .before .args .end) (c .before .before .before .loop .inv .1) (c .before .before .stitch-view .ensures) (c .enum-told .given .1)))
+returns c =
+    let start = c .before .before .before .before .before .before .before in
+    let loop = c .before .before .before .loop in
+    storing-end (loop .inv .2) (ap (each (stitchPlaced (start .args .flow))) (no-stitch (start .args .file .now) (loop .at) (start .args .end) (loop .inv .1) (c .before .before .stitch-view .ensures) (c .enum-told .given .1)))
 
 put-stitch-requires : tie.Need-put-stitch-requires Inv-loop μ-loop
 put-stitch-requires c κs =
-    let l = stitch-laid (c .before .before .before .before .before .before .before .before .before .before .args .file .now) (c .before .before .before .before .before .before .loop .at) (c .before .before .before .before .before .before .before .before .before .before .args .end) (c .before .before .before .v .given .0 .0) (c .before .before .before .before .before .stitch-view .ensures) (c .before .before .before .v .given .1) in (
+    let start = c .before .before .before .before .before .before .before .before .before .before in
+    let loop = c .before .before .before .before .before .before .loop in
+    let stitch-view = c .before .before .before .before .before .stitch-view in
+    let v = c .before .before .before .v in
+    let l = stitch-laid (start .args .file .now) (loop .at) (start .args .end) (v .given .0 .0) (stitch-view .ensures) (v .given .1) in (
       (
         l .name,
         omega arith,
-        record { ordered = l .from; within = omega (arith, c .before .before .before .before .before .before .before .before .before .before .pre .0 .within); short = c .before .before .before .before .before .before .before .before .before .before .pre .0 .short },
+        record { ordered = l .from; within = omega (arith, start .pre .0 .within); short = start .pre .0 .short },
       ),
-      omega (arith, c .before .before .before .before .before .before .loop .inv .0, c .before .before .before .before .before .before .before .before .before .before .pre .1 .1),
+      omega (arith, loop .inv .0, start .pre .1 .1),
     )
 
 loop-less : tie.Need-loop-less Inv-loop μ-loop
-loop-less c = let l = stitch-laid (c .before .before .before .before .before .before .before .before .before .before .before .before .before .before .before .args .file .now) (c .before .before .before .before .before .before .before .before .before .before .before .loop .at) (c .before .before .before .before .before .before .before .before .before .before .before .before .before .before .before .args .end) (c .before .before .before .before .before .before .before .before .v .given .0 .0) (c .before .before .before .before .before .before .before .before .before .before .stitch-view .ensures) (c .before .before .before .before .before .before .before .before .v .given .1) in omega (arith, c .before .before .before .before .before .before .before .before .before .before .before .loop .inv .0)
+loop-less c =
+    let start = c .before .before .before .before .before .before .before .before .before .before .before .before .before .before .before in
+    let loop = c .before .before .before .before .before .before .before .before .before .before .before .loop in
+    let stitch-view = c .before .before .before .before .before .before .before .before .before .before .stitch-view in
+    let v = c .before .before .before .before .before .before .before .before .v in
+    let l = stitch-laid (start .args .file .now) (loop .at) (start .args .end) (v .given .0 .0) (stitch-view .ensures) (v .given .1) in omega (arith, loop .inv .0)
 
 loop-again : tie.Need-loop-again Inv-loop μ-loop
 loop-again c =
-    let l = stitch-laid (c .before .before .before .before .before .before .before .before .before .before .before .before .before .before .before .args .file .now) (c .before .before .before .before .before .before .before .before .before .before .before .loop .at) (c .before .before .before .before .before .before .before .before .before .before .before .before .before .before .before .args .end) (c .before .before .before .before .before .before .before .before .v .given .0 .0) (c .before .before .before .before .before .before .before .before .before .before .stitch-view .ensures) (c .before .before .before .before .before .before .before .before .v .given .1) in (
-      omega (arith, c .before .before .before .before .before .before .before .before .before .before .before .loop .inv .0),
-      stitch-readable (c .before .before .before .before .before .before .before .before .before .before .before .before .before .before .before .args .file .now) (c .before .before .before .before .before .before .before .before .before .before .before .loop .at) (c .before .before .before .before .before .before .before .before .before .before .before .before .before .before .before .args .end) (c .before .before .before .before .before .before .before .before .before .before .before .loop .inv .1) (c .before .before .before .before .before .before .before .before .before .before .stitch-view .ensures) (c .before .before .before .before .before .before .before .before .v .given .0 .0) (c .before .before .before .before .before .before .before .before .v .given .1) .rest,
-      storing-many (c .before .before .before .before .before .before .before .before .before .before .before .loop .inv .2) _
-          (ap (each (stitchPlaced (c .before .before .before .before .before .before .before .before .before .before .before .before .before .before .before .args .flow))) (stitch-viewed (c .before .before .before .before .before .before .before .before .before .before .before .before .before .before .before .args .file .now) (c .before .before .before .before .before .before .before .before .before .before .before .loop .at) (c .before .before .before .before .before .before .before .before .before .before .before .before .before .before .before .args .end) (c .before .before .before .before .before .before .before .before .v .given .0 .0) (c .before .before .before .before .before .before .before .before .before .before .stitch-view .ensures) (c .before .before .before .before .before .before .before .before .v .given .1)))
-          (c .before .before .before .before .put-stitch .ensures),
+    let start = c .before .before .before .before .before .before .before .before .before .before .before .before .before .before .before in
+    let loop = c .before .before .before .before .before .before .before .before .before .before .before .loop in
+    let stitch-view = c .before .before .before .before .before .before .before .before .before .before .stitch-view in
+    let v = c .before .before .before .before .before .before .before .before .v in
+    let put-stitch = c .before .before .before .before .put-stitch in
+    let l = stitch-laid (start .args .file .now) (loop .at) (start .args .end) (v .given .0 .0) (stitch-view .ensures) (v .given .1) in (
+      omega (arith, loop .inv .0),
+      stitch-readable (start .args .file .now) (loop .at) (start .args .end) (loop .inv .1) (stitch-view .ensures) (v .given .0 .0) (v .given .1) .rest,
+      storing-many (loop .inv .2) _
+          (ap (each (stitchPlaced (start .args .flow))) (stitch-viewed (start .args .file .now) (loop .at) (start .args .end) (v .given .0 .0) (stitch-view .ensures) (v .given .1)))
+          (put-stitch .ensures),
     )
 
 pub put-stitches-spec : {M : Type 1} → statement M

@@ -1,5 +1,5 @@
 -- `symbols::entries::write_index` meets its contract: globals, labels of the root and flows are stored in order. Assumes nothing.
-use mathlib.Core.Path.{_≡_, refl}
+use mathlib.Core.Path.{refl}
 use native.Mathlib.Omega.{arith}
 use Rattle.story.specs.File.{storyIn}
 use Rattle.story.proofs.Readable.{readable}
@@ -21,9 +21,10 @@ collect-labels-from-nodes-requires c κs =
 
 put-flows-requires : tie.Need-put-flows-requires
 put-flows-requires c κs =
-    let r = readable (c .before .before .before .before .before .before .before .before .before .before .before .before .before .before .before .before .args .file .now) (c .before .before .before .before .before .before .before .before .before .before .before .before .before .before .before .before .args .c) refl (c .before .before .before .before .before .before .before .before .before .before .before .before .before .before .before .before .pre .0) in (
+    let start = c .before .before .before .before .before .before .before .before .before .before .before .before .before .before .before .before in
+    let r = readable (start .args .file .now) (start .args .c) refl (start .pre .0) in (
       record { ordered = r .order .flows; within = let g = r .order in omega arith; short = r .order .short },
-      (r .flows, omega (arith, c .before .before .before .before .before .before .before .before .before .before .before .before .before .before .before .before .pre .1)),
+      (r .flows, omega (arith, start .pre .1)),
     )
 
 same-length : tie.Need-same-length
@@ -35,10 +36,14 @@ same-length-2 c = search needs
 returns : tie.Need-returns
 unfolding storyIn
 returns c =
-    let g = readable (c .before .before .before .before .before .before .before .before .before .before .before .before .before .before .before .before .before .before .before .before .before .args .file .now) (c .before .before .before .before .before .before .before .before .before .before .before .before .before .before .before .before .before .before .before .before .before .args .c) refl (c .before .before .before .before .before .before .before .before .before .before .before .before .before .before .before .before .before .before .before .before .before .pre .0) .order in
-    story-stored _ (storyIn (c .before .before .before .before .before .before .before .before .before .before .before .before .before .before .before .before .before .before .before .before .before .args .c) (c .before .before .before .before .before .before .before .before .before .before .before .before .before .before .before .before .before .before .before .before .before .args .file .now))
-    (rw (← section-names (c .before .before .before .before .before .before .before .before .before .before .before .before .before .before .before .before .before .before .before .before .before .args .file .now) (c .before .before .before .before .before .before .before .before .before .before .before .before .before .before .before .before .before .before .before .before .before .args .c .externals) (omega arith)) (c .before .before .before .before .before .before .before .before .before .before .before .before .before .before .before .before .put-names .ensures))
-    (c .before .before .before .before .before .before .before .before .before .before .before .collect-labels-from-nodes .ensures) (c .before .before .before .before .put-flows .ensures)
+    let start = c .before .before .before .before .before .before .before .before .before .before .before .before .before .before .before .before .before .before .before .before .before in
+    let put-names = c .before .before .before .before .before .before .before .before .before .before .before .before .before .before .before .before .put-names in
+    let collect-labels-from-nodes = c .before .before .before .before .before .before .before .before .before .before .before .collect-labels-from-nodes in
+    let put-flows = c .before .before .before .before .put-flows in
+    let g = readable (start .args .file .now) (start .args .c) refl (start .pre .0) .order in
+    story-stored _ (storyIn (start .args .c) (start .args .file .now))
+    (rw (← section-names (start .args .file .now) (start .args .c .externals) (omega arith)) (put-names .ensures))
+    (collect-labels-from-nodes .ensures) (put-flows .ensures)
 
 pub write-index-spec : {M : Type 1} → statement M
 write-index-spec =

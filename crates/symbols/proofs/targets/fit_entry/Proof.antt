@@ -45,16 +45,25 @@ fit-flow-requires-2 c κs = search needs
 
 returns-2 : tie.Need-returns-2
 returns-2 c =
-    rw (spelled-within (c .before .before .before .before .before .before .before .before .before .before .before .before .args .file .now) (c .before .before .before .before .before .before .before .before .before .before .before .before .args .p) (c .before .before .before .before .before .before .if1 .left), ← c .before .before .before .before .before .before .before .before .name-at .ensures, ← c .before .before .name-at2 .ensures)
-    (reach-fit (c .before .before .before .before .before .before .before .before .before .before .before .before .args .target .now) (c .before .before .before .before .before .before .before .before .name-at .result .now) (c .before .before .before .before .before .ends-dotted .ensures) (dottedIn (c .before .before .before .before .before .before .before .before .before .before .before .before .args .file .now) (c .before .before .before .before .before .before .before .before .before .before .before .before .args .p .flow) (c .before .before .name-at2 .result .now)) (c .before .before .before .before .if2 .taken) (c .fit-flow2 .ensures))
+    let start = c .before .before .before .before .before .before .before .before .before .before .before .before in
+    let name-at = c .before .before .before .before .before .before .before .before .name-at in
+    let if1 = c .before .before .before .before .before .before .if1 in
+    let ends-dotted = c .before .before .before .before .before .ends-dotted in
+    let if2 = c .before .before .before .before .if2 in
+    let name-at2 = c .before .before .name-at2 in
+    rw (spelled-within (start .args .file .now) (start .args .p) (if1 .left), ← name-at .ensures, ← name-at2 .ensures)
+    (reach-fit (start .args .target .now) (name-at .result .now) (ends-dotted .ensures) (dottedIn (start .args .file .now) (start .args .p .flow) (name-at2 .result .now)) (if2 .taken) (c .fit-flow2 .ensures))
 
 fit-end-requires : tie.Need-fit-end-requires
 fit-end-requires c κs = search needs
 
 returns-3 : tie.Need-returns-3
 returns-3 c =
-    rw (spelled-within (c .before .before .before .before .before .before .before .before .before .args .file .now) (c .before .before .before .before .before .before .before .before .before .args .p) (c .before .before .before .if1 .left), ← c .before .before .before .before .before .name-at .ensures)
-    (within-fit (c .before .before .before .before .before .before .before .before .before .args .target .now) (c .before .before .before .before .before .name-at .result .now) (c .before .before .ends-dotted .ensures) (dottedIn (c .before .before .before .before .before .before .before .before .before .args .file .now) (c .before .before .before .before .before .before .before .before .before .args .p .flow) (nameAt (c .before .before .before .before .before .before .before .before .before .args .file .now) (c .before .before .before .before .before .before .before .before .before .args .p .stitch))) (c .before .if2 .left) (c .fit-end .ensures))
+    let start = c .before .before .before .before .before .before .before .before .before in
+    let name-at = c .before .before .before .before .before .name-at in
+    let if1 = c .before .before .before .if1 in
+    rw (spelled-within (start .args .file .now) (start .args .p) (if1 .left), ← name-at .ensures)
+    (within-fit (start .args .target .now) (name-at .result .now) (c .before .before .ends-dotted .ensures) (dottedIn (start .args .file .now) (start .args .p .flow) (nameAt (start .args .file .now) (start .args .p .stitch))) (c .before .if2 .left) (c .fit-end .ensures))
 
 pub fit-entry-spec : {M : Type 1} → statement M
 fit-entry-spec =

@@ -35,16 +35,22 @@ fit-word-requires-2 c κs = search needs
 
 returns-2 : tie.Need-returns-2
 returns-2 c =
-    rw (dotted-some (c .before .before .before .before .before .before .before .before .before .args .file .now) (c .before .before .before .before .before .before .before .before .before .args .flow) (c .before .before .before .before .before .before .before .before .before .args .last .now) (c .before .before .before .before .before .if1 .left), ← c .before .name-at .ensures)
-    (reach-fit (c .before .before .before .before .before .before .before .before .before .args .target .now) (c .before .before .before .before .before .before .before .before .before .args .last .now) (c .before .before .before .before .ends-dotted .ensures) (c .before .name-at .result .now) (c .before .before .before .if2 .taken) (c .fit-word2 .ensures))
+    let start = c .before .before .before .before .before .before .before .before .before in
+    let if1 = c .before .before .before .before .before .if1 in
+    let ends-dotted = c .before .before .before .before .ends-dotted in
+    let if2 = c .before .before .before .if2 in
+    rw (dotted-some (start .args .file .now) (start .args .flow) (start .args .last .now) (if1 .left), ← c .before .name-at .ensures)
+    (reach-fit (start .args .target .now) (start .args .last .now) (ends-dotted .ensures) (c .before .name-at .result .now) (if2 .taken) (c .fit-word2 .ensures))
 
 fit-end-requires : tie.Need-fit-end-requires
 fit-end-requires c κs = search needs
 
 returns-3 : tie.Need-returns-3
 returns-3 c =
-    rw (dotted-some (c .before .before .before .before .before .before .before .args .file .now) (c .before .before .before .before .before .before .before .args .flow) (c .before .before .before .before .before .before .before .args .last .now) (c .before .before .before .if1 .left))
-    (within-fit (c .before .before .before .before .before .before .before .args .target .now) (c .before .before .before .before .before .before .before .args .last .now) (c .before .before .ends-dotted .ensures) (nameAt (c .before .before .before .before .before .before .before .args .file .now) (c .before .before .before .before .before .before .before .args .flow)) (c .before .if2 .left) (c .fit-end .ensures))
+    let start = c .before .before .before .before .before .before .before in
+    let if1 = c .before .before .before .if1 in
+    rw (dotted-some (start .args .file .now) (start .args .flow) (start .args .last .now) (if1 .left))
+    (within-fit (start .args .target .now) (start .args .last .now) (c .before .before .ends-dotted .ensures) (nameAt (start .args .file .now) (start .args .flow)) (c .before .if2 .left) (c .fit-end .ensures))
 
 pub fit-flow-spec : {M : Type 1} → statement M
 fit-flow-spec =

@@ -7,10 +7,14 @@ use Rattle.tables.proofs.functions.is_function_in.Statement.{statement}
 use Rattle.tables.proofs.functions.is_function_in.Tie as tie
 
 returns-2 : tie.Need-returns-2
-returns-2 c = sought-found (c .before .before .before .before .before .before .before .args .file .now) _ (c .before .before .before .before .before .before .before .args .name .now) (c .before .before .before .before .before .before .before .pre .1) (c .before .before .seek .ensures) (c .enum-told .given .1)
+returns-2 c =
+    let start = c .before .before .before .before .before .before .before in
+    sought-found (start .args .file .now) _ (start .args .name .now) (start .pre .1) (c .before .before .seek .ensures) (c .enum-told .given .1)
 
 returns-3 : tie.Need-returns-3
-returns-3 c = sought-vacant (c .before .before .before .before .before .before .before .args .file .now) _ (c .before .before .before .before .before .before .before .args .name .now) (c .before .before .before .before .before .before .before .pre .1) (c .before .before .seek .ensures) (omega arith) (c .enum-told2 .given .1)
+returns-3 c =
+    let start = c .before .before .before .before .before .before .before in
+    sought-vacant (start .args .file .now) _ (start .args .name .now) (start .pre .1) (c .before .before .seek .ensures) (omega arith) (c .enum-told2 .given .1)
 
 pub is-function-in-spec : {M : Type 1} → statement M
 is-function-in-spec =

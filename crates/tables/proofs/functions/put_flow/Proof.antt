@@ -7,19 +7,38 @@ use Rattle.tables.proofs.functions.put_flow.Statement.{statement}
 use Rattle.tables.proofs.functions.put_flow.Tie as tie
 
 mul-table : tie.Need-mul-table
-mul-table c = let i = vacant-inside (c .before .before .before .before .before .before .before .before .before .before .args .file .now) (c .before .before .before .before .before .before .before .before .before .before .args .table .now) _ (c .before .before .before .before .before .before .before .before .before .before .pre .0) (c .before .before .before .before .seek .ensures) (c .before .before .found .given .1) in search (needs, i)
+mul-table c =
+    let start = c .before .before .before .before .before .before .before .before .before .before in
+    let seek = c .before .before .before .before .seek in
+    let i = vacant-inside (start .args .file .now) (start .args .table .now) _ (start .pre .0) (seek .ensures) (c .before .before .found .given .1) in search (needs, i)
 
 slice-write-table : tie.Need-slice-write-table
-slice-write-table c = let i = vacant-inside (c .before .before .before .before .before .before .before .before .before .before .args .file .now) (c .before .before .before .before .before .before .before .before .before .before .args .table .now) _ (c .before .before .before .before .before .before .before .before .before .before .pre .0) (c .before .before .before .before .seek .ensures) (c .before .before .found .given .1) in omega arith
+slice-write-table c =
+    let start = c .before .before .before .before .before .before .before .before .before .before in
+    let seek = c .before .before .before .before .seek in
+    let i = vacant-inside (start .args .file .now) (start .args .table .now) _ (start .pre .0) (seek .ensures) (c .before .before .found .given .1) in omega arith
 
 returns : tie.Need-returns
-returns c = flow-written (c .before .before .before .before .before .before .before .before .args .file .now) (c .before .before .before .before .before .before .before .before .args .v) (c .before .before .before .before .before .before .before .before .args .table .now) (c .before .before .seek .ensures) (c .enum-told .given .1) (c .before .before .before .before .before .if1 .taken) (c .before .before .before .name-at .ensures)
+returns c =
+    let start = c .before .before .before .before .before .before .before .before in
+    let if1 = c .before .before .before .before .before .if1 in
+    let name-at = c .before .before .before .name-at in
+    flow-written (start .args .file .now) (start .args .v) (start .args .table .now) (c .before .before .seek .ensures) (c .enum-told .given .1) (if1 .taken) (name-at .ensures)
 
 returns-2 : tie.Need-returns-2
-returns-2 c = flow-written (c .before .before .before .before .before .before .before .before .before .before .args .file .now) (c .before .before .before .before .before .before .before .before .before .before .args .v) (c .before .before .before .before .before .before .before .before .before .before .args .table .now) (c .before .before .before .before .seek .ensures) (c .before .before .found .given .1) (c .before .before .before .before .before .before .before .if1 .taken) (c .before .before .before .before .before .name-at .ensures)
+returns-2 c =
+    let start = c .before .before .before .before .before .before .before .before .before .before in
+    let if1 = c .before .before .before .before .before .before .before .if1 in
+    let name-at = c .before .before .before .before .before .name-at in
+    let seek = c .before .before .before .before .seek in
+    flow-written (start .args .file .now) (start .args .v) (start .args .table .now) (seek .ensures) (c .before .before .found .given .1) (if1 .taken) (name-at .ensures)
 
 returns-3 : tie.Need-returns-3
-returns-3 c = flow-written (c .before .before .before .before .before .before .before .before .args .file .now) (c .before .before .before .before .before .before .before .before .args .v) (c .before .before .before .before .before .before .before .before .args .table .now) (c .before .before .seek .ensures) (c .enum-told2 .given .1) (c .before .before .before .before .before .if1 .taken) (c .before .before .before .name-at .ensures)
+returns-3 c =
+    let start = c .before .before .before .before .before .before .before .before in
+    let if1 = c .before .before .before .before .before .if1 in
+    let name-at = c .before .before .before .name-at in
+    flow-written (start .args .file .now) (start .args .v) (start .args .table .now) (c .before .before .seek .ensures) (c .enum-told2 .given .1) (if1 .taken) (name-at .ensures)
 
 pub put-flow-spec : {M : Type 1} → statement M
 put-flow-spec =

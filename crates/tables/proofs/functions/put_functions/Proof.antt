@@ -32,29 +32,46 @@ loop-holds c =
     ((r .order .flows, refl), r .flows, filling-start (omega arith) (c .before .before .before .clear .ensures))
 
 flow-view-requires : tie.Need-flow-view-requires Inv-loop μ-loop
-flow-view-requires c κs = let r = readable (c .before .before .before .before .before .before .before .before .args .file .now) (c .before .before .before .before .before .before .before .before .args .c) refl (c .before .before .before .before .before .before .before .before .pre) .order in omega arith
+flow-view-requires c κs =
+    let start = c .before .before .before .before .before .before .before .before in
+    let r = readable (start .args .file .now) (start .args .c) refl (start .pre) .order in omega arith
 
 returns-2 : tie.Need-returns-2 Inv-loop μ-loop
-returns-2 c = filling-end _ _ _ (c .before .before .before .loop .inv .2) (no-flow (c .before .before .before .before .before .before .before .before .before .before .before .args .file .now) (c .before .before .before .loop .at) (c .before .before .before .before .before .before .before .before .before .before .before .args .c .end) (c .before .before .before .loop .inv .1) (c .before .before .flow-view .ensures) (c .enum-told .given .1))
+returns-2 c =
+    let start = c .before .before .before .before .before .before .before .before .before .before .before in
+    let loop = c .before .before .before .loop in
+    filling-end _ _ _ (loop .inv .2) (no-flow (start .args .file .now) (loop .at) (start .args .c .end) (loop .inv .1) (c .before .before .flow-view .ensures) (c .enum-told .given .1))
 
 put-flow-requires : tie.Need-put-flow-requires Inv-loop μ-loop
 put-flow-requires c κs =
-    let l = flow-laid (c .before .before .before .before .before .before .before .before .before .before .before .before .before .args .file .now) (c .before .before .before .before .before .loop .at) (c .before .before .before .before .before .before .before .before .before .before .before .before .before .args .c .end) (c .before .before .v .given .0 .0) (c .before .before .before .before .flow-view .ensures) (c .before .before .v .given .1) in
-    let r = readable (c .before .before .before .before .before .before .before .before .before .before .before .before .before .args .file .now) (c .before .before .before .before .before .before .before .before .before .before .before .before .before .args .c) refl (c .before .before .before .before .before .before .before .before .before .before .before .before .before .pre) .order in
-    omega (arith, c .before .before .before .before .before .loop .inv .2 .room)
+    let start = c .before .before .before .before .before .before .before .before .before .before .before .before .before in
+    let loop = c .before .before .before .before .before .loop in
+    let flow-view = c .before .before .before .before .flow-view in
+    let v = c .before .before .v in
+    let l = flow-laid (start .args .file .now) (loop .at) (start .args .c .end) (v .given .0 .0) (flow-view .ensures) (v .given .1) in
+    let r = readable (start .args .file .now) (start .args .c) refl (start .pre) .order in
+    omega (arith, loop .inv .2 .room)
 
 loop-less : tie.Need-loop-less Inv-loop μ-loop
 loop-less c =
-    let l = flow-laid (c .before .before .before .before .before .before .before .before .before .before .before .before .before .before .before .before .args .file .now) (c .before .before .before .before .before .before .before .before .loop .at) (c .before .before .before .before .before .before .before .before .before .before .before .before .before .before .before .before .args .c .end) (c .before .before .before .before .before .v .given .0 .0) (c .before .before .before .before .before .before .before .flow-view .ensures) (c .before .before .before .before .before .v .given .1) in
-    omega (arith, c .before .before .before .before .before .before .before .before .loop .inv .0)
+    let start = c .before .before .before .before .before .before .before .before .before .before .before .before .before .before .before .before in
+    let loop = c .before .before .before .before .before .before .before .before .loop in
+    let flow-view = c .before .before .before .before .before .before .before .flow-view in
+    let v = c .before .before .before .before .before .v in
+    let l = flow-laid (start .args .file .now) (loop .at) (start .args .c .end) (v .given .0 .0) (flow-view .ensures) (v .given .1) in
+    omega (arith, loop .inv .0)
 
 loop-again : tie.Need-loop-again Inv-loop μ-loop
 loop-again c =
-    let l = flow-laid (c .before .before .before .before .before .before .before .before .before .before .before .before .before .before .before .before .args .file .now) (c .before .before .before .before .before .before .before .before .loop .at) (c .before .before .before .before .before .before .before .before .before .before .before .before .before .before .before .before .args .c .end) (c .before .before .before .before .before .v .given .0 .0) (c .before .before .before .before .before .before .before .flow-view .ensures) (c .before .before .before .before .before .v .given .1) in (
-      omega (arith, c .before .before .before .before .before .before .before .before .loop .inv .0),
-      flow-readable (c .before .before .before .before .before .before .before .before .before .before .before .before .before .before .before .before .args .file .now) (c .before .before .before .before .before .before .before .before .loop .at) (c .before .before .before .before .before .before .before .before .before .before .before .before .before .before .before .before .args .c .end) (c .before .before .before .before .before .before .before .before .loop .inv .1) (c .before .before .before .before .before .before .before .flow-view .ensures) (c .before .before .before .before .before .v .given .0 .0) (c .before .before .before .before .before .v .given .1) .rest,
-      filling-next (c .before .before .before .before .before .before .before .before .loop .inv .2) (c .before .before .before .before .before .v .given .0 .0)
-          (flow-viewed (c .before .before .before .before .before .before .before .before .before .before .before .before .before .before .before .before .args .file .now) (c .before .before .before .before .before .before .before .before .loop .at) (c .before .before .before .before .before .before .before .before .before .before .before .before .before .before .before .before .args .c .end) (c .before .before .before .before .before .v .given .0 .0) (c .before .before .before .before .before .before .before .flow-view .ensures) (c .before .before .before .before .before .v .given .1))
+    let start = c .before .before .before .before .before .before .before .before .before .before .before .before .before .before .before .before in
+    let loop = c .before .before .before .before .before .before .before .before .loop in
+    let flow-view = c .before .before .before .before .before .before .before .flow-view in
+    let v = c .before .before .before .before .before .v in
+    let l = flow-laid (start .args .file .now) (loop .at) (start .args .c .end) (v .given .0 .0) (flow-view .ensures) (v .given .1) in (
+      omega (arith, loop .inv .0),
+      flow-readable (start .args .file .now) (loop .at) (start .args .c .end) (loop .inv .1) (flow-view .ensures) (v .given .0 .0) (v .given .1) .rest,
+      filling-next (loop .inv .2) (v .given .0 .0)
+          (flow-viewed (start .args .file .now) (loop .at) (start .args .c .end) (v .given .0 .0) (flow-view .ensures) (v .given .1))
           (c .before .before .put-flow .ensures),
     )
 

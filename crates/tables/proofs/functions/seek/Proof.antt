@@ -23,16 +23,28 @@ cast-number : tie.Need-cast-number Inv-loop μ-loop
 cast-number c = omega (arith, c .shared-slice-known4 .given (c .before .before .loop .slot))
 
 returns : tie.Need-returns Inv-loop μ-loop
-returns c = walk-vacant (c .before .before .before .before .before .before .before .before .before .args .file .now) (c .before .before .before .before .before .before .before .before .before .args .table .now) (c .before .before .before .before .before .before .before .before .before .args .name .now) (c .before .before .before .loop .left) (c .before .before .before .loop .slot) (c .before .before .before .loop .inv .1) (omega arith) (c .if1 .taken)
+returns c =
+    let start = c .before .before .before .before .before .before .before .before .before in
+    let loop = c .before .before .before .loop in
+    walk-vacant (start .args .file .now) (start .args .table .now) (start .args .name .now) (loop .left) (loop .slot) (loop .inv .1) (omega arith) (c .if1 .taken)
 
 returns-2 : tie.Need-returns-2 Inv-loop μ-loop
-returns-2 c = walk-found (c .before .before .before .before .before .before .before .before .before .before .before .args .file .now) (c .before .before .before .before .before .before .before .before .before .before .before .args .table .now) (c .before .before .before .before .before .before .before .before .before .before .before .args .name .now) (c .before .before .before .before .before .loop .left) (c .before .before .before .before .before .loop .slot) (c .before .before .before .before .before .loop .inv .1) (omega arith) (c .before .before .if1 .left) (c .before .same-at .ensures) (c .if2 .taken)
+returns-2 c =
+    let start = c .before .before .before .before .before .before .before .before .before .before .before in
+    let loop = c .before .before .before .before .before .loop in
+    walk-found (start .args .file .now) (start .args .table .now) (start .args .name .now) (loop .left) (loop .slot) (loop .inv .1) (omega arith) (c .before .before .if1 .left) (c .before .same-at .ensures) (c .if2 .taken)
 
 loop-again : tie.Need-loop-again Inv-loop μ-loop
-loop-again c = (c .next-slot .ensures .1, walk-further (c .before .before .before .before .before .before .before .before .before .before .before .before .args .file .now) (c .before .before .before .before .before .before .before .before .before .before .before .before .args .table .now) (c .before .before .before .before .before .before .before .before .before .before .before .before .args .name .now) (c .before .before .before .before .before .before .loop .left) (c .before .before .before .before .before .before .loop .slot) (c .before .before .before .before .before .before .loop .inv .1) (omega arith) (c .before .before .before .if1 .left) (c .before .before .same-at .ensures) (c .before .if2 .left) (c .next-slot .ensures .0))
+loop-again c =
+    let start = c .before .before .before .before .before .before .before .before .before .before .before .before in
+    let loop = c .before .before .before .before .before .before .loop in
+    let if1 = c .before .before .before .if1 in
+    (c .next-slot .ensures .1, walk-further (start .args .file .now) (start .args .table .now) (start .args .name .now) (loop .left) (loop .slot) (loop .inv .1) (omega arith) (if1 .left) (c .before .before .same-at .ensures) (c .before .if2 .left) (c .next-slot .ensures .0))
 
 returns-3 : tie.Need-returns-3 Inv-loop μ-loop
-returns-3 c = walk-exhausted (c .before .before .before .before .before .before .before .args .file .now) (c .before .before .before .before .before .before .before .args .table .now) (c .before .before .before .before .before .before .before .args .name .now) (c .before .loop .left) (c .before .loop .slot) (c .before .loop .inv .1) (omega arith)
+returns-3 c =
+    let start = c .before .before .before .before .before .before .before in
+    walk-exhausted (start .args .file .now) (start .args .table .now) (start .args .name .now) (c .before .loop .left) (c .before .loop .slot) (c .before .loop .inv .1) (omega arith)
 
 pub seek-spec : {M : Type 1} → statement M
 seek-spec =

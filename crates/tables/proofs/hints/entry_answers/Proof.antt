@@ -12,7 +12,9 @@ returns-2 : tie.Need-returns-2
 returns-2 c = not-answered
 
 returns-3 : tie.Need-returns-3
-returns-3 c = entry-answered _ _ _ (c .before .before .before .before .before .before .before .before .args .index .now) (c .before .before .before .before .before .before .before .before .args .k) (omega arith) (omega arith) (c .before .before .entry-at .ensures) (c .before .fit-entry .ensures) (c .is-answer .ensures)
+returns-3 c =
+    let start = c .before .before .before .before .before .before .before .before in
+    entry-answered _ _ _ (start .args .index .now) (start .args .k) (omega arith) (omega arith) (c .before .before .entry-at .ensures) (c .before .fit-entry .ensures) (c .is-answer .ensures)
 
 pub entry-answers-spec : {M : Type 1} → statement M
 entry-answers-spec =

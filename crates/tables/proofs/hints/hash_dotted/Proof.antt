@@ -1,5 +1,4 @@
 -- `hash_dotted`: on over the name and a dot, or no further. Assumes nothing.
-use lib.Dec.{eqb}
 use borrow.Author.Tests.{ne-eqb}
 use borrow.Author.Needs.{needs}
 use Rattle.tables.specs.Hints.{dottedHash}

@@ -25,7 +25,9 @@ module _ (t : ℕ) where
   rest : lts.Need-returns-2 (walk-assign-uses t) (walk-assign-at t) walk-assign.Post
   rest c =
       let a = c .before .before .before .before .before .before .before .before .before .before .args in
-      rw (moded-on (noting (a .skip)) (a .base) (st (a .out .now) (a .n)) (named (exact 1 (recordOf (a .left) Visited))) (a .s .now) (omega (arith, c .before .before .before .before .before .before .before .if1 .left)) (omega (arith, c .before .before .before .before .before .if2 .taken))) (c .before .before .set .ensures)
+      let if1 = c .before .before .before .before .before .before .before .if1 in
+      let if2 = c .before .before .before .before .before .if2 in
+      rw (moded-on (noting (a .skip)) (a .base) (st (a .out .now) (a .n)) (named (exact 1 (recordOf (a .left) Visited))) (a .s .now) (omega (arith, if1 .left)) (omega (arith, if2 .taken))) (c .before .before .set .ensures)
 
   unknown : lts.Need-returns-3 (walk-assign-uses t) (walk-assign-at t) walk-assign.Post
   unknown c =

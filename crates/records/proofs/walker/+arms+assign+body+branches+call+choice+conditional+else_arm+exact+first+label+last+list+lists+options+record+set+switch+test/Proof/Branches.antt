@@ -38,8 +38,10 @@ module _ (t : ℕ) where
   other-test c =
       let a = c .before .before .before .before .before .before .before .before .before .before .args in
       let l = c .before .before .before .before .before .before .before .loop in
-      rw (l .inv .1, repeat-step (branch (recordOf (a .left))) (branch-local (recordOf (a .left))) (l .t .now) (c .before .before .before .before .before .before .loop-test .taken))
-      (branch-else (noting (a .skip)) (l .at) (st (l .out) (l .count)) (recordOf (a .left)) (repeat (branch (recordOf (a .left)))) (l .t .now) (c .before .before .before .before .test .ensures) (not-done (tagOf the-type) (λ m. refl) (c .before .before .before .before .test .result) (c .before .match .keys2)))
+      let loop-test = c .before .before .before .before .before .before .loop-test in
+      let test = c .before .before .before .before .test in
+      rw (l .inv .1, repeat-step (branch (recordOf (a .left))) (branch-local (recordOf (a .left))) (l .t .now) (loop-test .taken))
+      (branch-else (noting (a .skip)) (l .at) (st (l .out) (l .count)) (recordOf (a .left)) (repeat (branch (recordOf (a .left)))) (l .t .now) (test .ensures) (not-done (tagOf the-type) (λ m. refl) (test .result) (c .before .match .keys2)))
 
   span : (c : lts.After-test-span (walk-branches-uses t) (walk-branches-at t) walk-branches.Post Inv μ) → (0 < c .test-span .result) × (c .test-span .result ≤ length (c .before .before .before .before .before .before .before .before .before .loop .t .now))
   span c = test-fits (c .before .before .before .before .before .before .before .before .before .loop .t .now) (c .before .before .before .before .before .before .before .before .loop-test .taken) (c .test-span .ensures)
@@ -57,38 +59,68 @@ module _ (t : ℕ) where
   cut c =
       let a = c .before .before .before .before .before .before .before .before .before .before .before .before .before .before .before .before .args in
       let l = c .before .before .before .before .before .before .before .before .before .before .before .before .before .loop in
-      rw (l .inv .1, repeat-step (branch (recordOf (a .left))) (branch-local (recordOf (a .left))) (l .t .now) (c .before .before .before .before .before .before .before .before .before .before .before .before .loop-test .taken), branch-on (noting (a .skip)) (l .at) (st (l .out) (l .count)) (recordOf (a .left)) (repeat (branch (recordOf (a .left)))) (l .t .now) (c .before .before .before .before .before .before .w .given .0 .0) (c .before .before .before .before .test-span .result) (c .before .before .before .before .before .before .before .before .before .before .test .ensures) (c .before .before .before .before .before .before .w .given .1) (c .before .before .before .before .test-span .ensures))
-      (listed-cut (noting (a .skip)) (l .at + c .before .before .before .before .test-span .result) (st (c .before .before .before .before .before .before .before .before .before .before .test .last .1 .1 .1 .1 .0) (c .before .before .before .before .before .before .w .given .0 .0)) (recordOf (a .left) Branch) (repeat (branch (recordOf (a .left)))) (take (length (l .t .now) - c .before .before .before .before .test-span .result) (drop (c .before .before .before .before .test-span .result) (l .t .now))) (c .before .before .read-list .ensures) (c .enum-told2 .given .1))
+      let loop-test = c .before .before .before .before .before .before .before .before .before .before .before .before .loop-test in
+      let test = c .before .before .before .before .before .before .before .before .before .before .test in
+      let w = c .before .before .before .before .before .before .w in
+      let test-span = c .before .before .before .before .test-span in
+      rw (l .inv .1, repeat-step (branch (recordOf (a .left))) (branch-local (recordOf (a .left))) (l .t .now) (loop-test .taken), branch-on (noting (a .skip)) (l .at) (st (l .out) (l .count)) (recordOf (a .left)) (repeat (branch (recordOf (a .left)))) (l .t .now) (w .given .0 .0) (test-span .result) (test .ensures) (w .given .1) (test-span .ensures))
+      (listed-cut (noting (a .skip)) (l .at + test-span .result) (st (test .last .1 .1 .1 .1 .0) (w .given .0 .0)) (recordOf (a .left) Branch) (repeat (branch (recordOf (a .left)))) (take (length (l .t .now) - test-span .result) (drop (test-span .result) (l .t .now))) (c .before .before .read-list .ensures) (c .enum-told2 .given .1))
 
   fits : (c : lts.After-known-told2 (walk-branches-uses t) (walk-branches-at t) walk-branches.Post Inv μ) → 4 + c .before .len .given .0 .0 ≤ length (c .before .before .before .before .before .before .before .before .before .before .before .before .before .before .loop .t .now) - c .before .before .before .before .before .test-span .result
   fits c =
       let l = c .before .before .before .before .before .before .before .before .before .before .before .before .before .before .loop in
-      omega (arith, list-fits (take (length (l .t .now) - c .before .before .before .before .before .test-span .result) (drop (c .before .before .before .before .before .test-span .result) (l .t .now))) (c .before .len .given .0 .0) (c .before .before .before .read-list .ensures) (c .before .len .given .1), c .before .before .before .before .u .given .2)
+      let test-span = c .before .before .before .before .before .test-span in
+      let u = c .before .before .before .before .u in
+      let read-list = c .before .before .before .read-list in
+      omega (arith, list-fits (take (length (l .t .now) - test-span .result) (drop (test-span .result) (l .t .now))) (c .before .len .given .0 .0) (read-list .ensures) (c .before .len .given .1), u .given .2)
 
   add-d : lts.Need-add-d (walk-branches-uses t) (walk-branches-at t) walk-branches.Post Inv μ
-  add-d c = omega (arith, fits c, c .before .before .before .before .before .before .before .before .before .before .before .before .before .before .loop .inv .0, c .before .before .before .before .before .before .before .before .before .before .before .before .before .before .before .before .before .pre .1)
+  add-d c =
+      let start = c .before .before .before .before .before .before .before .before .before .before .before .before .before .before .before .before .before in
+      let loop = c .before .before .before .before .before .before .before .before .before .before .before .before .before .before .loop in
+      omega (arith, fits c, loop .inv .0, start .pre .1)
 
   part-end : lts.Need-part-list-end (walk-branches-uses t) (walk-branches-at t) walk-branches.Post Inv μ
   part-end c = omega (arith, fits c, c .before .before .before .before .u .given .2)
 
   add-4 : lts.Need-add-list (walk-branches-uses t) (walk-branches-at t) walk-branches.Post Inv μ
-  add-4 c = omega (arith, span (c .before .before .before .before .before .before), fits (c .before), c .before .before .before .before .before .before .before .before .before .before .before .before .before .before .before .loop .inv .0, c .before .before .before .before .before .before .before .before .before .before .before .before .before .before .before .before .before .before .pre .1)
+  add-4 c =
+      let start = c .before .before .before .before .before .before .before .before .before .before .before .before .before .before .before .before .before .before in
+      let loop = c .before .before .before .before .before .before .before .before .before .before .before .before .before .before .before .loop in
+      omega (arith, span (c .before .before .before .before .before .before), fits (c .before), loop .inv .0, start .pre .1)
 
   list-requires : lts.Need-list-requires (walk-branches-uses t) (walk-branches-at t) walk-branches.Post Inv μ
-  list-requires c κs = omega (arith, span (c .before .before .before .before .before .before .before), fits (c .before .before), c .before .list-arg .given .2, c .before .before .before .before .before .before .before .before .before .before .before .before .before .before .before .before .loop .inv .0, c .before .before .before .before .before .before .before .before .before .before .before .before .before .before .before .before .before .before .before .pre .0, c .before .before .before .before .before .before .before .before .before .before .before .before .before .before .before .before .before .before .before .pre .1)
+  list-requires c κs =
+      let start = c .before .before .before .before .before .before .before .before .before .before .before .before .before .before .before .before .before .before .before in
+      let loop = c .before .before .before .before .before .before .before .before .before .before .before .before .before .before .before .before .loop in
+      omega (arith, span (c .before .before .before .before .before .before .before), fits (c .before .before), c .before .list-arg .given .2, loop .inv .0, start .pre .0, start .pre .1)
 
   other-list : lts.Need-returns-3 (walk-branches-uses t) (walk-branches-at t) walk-branches.Post Inv μ
   other-list c =
       let a = c .before .before .before .before .before .before .before .before .before .before .before .before .before .before .before .before .before .before .before .before .before .before .before .before .args in
       let l = c .before .before .before .before .before .before .before .before .before .before .before .before .before .before .before .before .before .before .before .before .before .loop in
-      rw (l .inv .1, repeat-step (branch (recordOf (a .left))) (branch-local (recordOf (a .left))) (l .t .now) (c .before .before .before .before .before .before .before .before .before .before .before .before .before .before .before .before .before .before .before .before .loop-test .taken), branch-on (noting (a .skip)) (l .at) (st (l .out) (l .count)) (recordOf (a .left)) (repeat (branch (recordOf (a .left)))) (l .t .now) (c .before .before .before .before .before .before .before .before .before .before .before .before .before .before .w .given .0 .0) (c .before .before .before .before .before .before .before .before .before .before .before .before .test-span .result) (c .before .before .before .before .before .before .before .before .before .before .before .before .before .before .before .before .before .before .test .ensures) (c .before .before .before .before .before .before .before .before .before .before .before .before .before .before .w .given .1) (c .before .before .before .before .before .before .before .before .before .before .before .before .test-span .ensures))
-      (listed-else (noting (a .skip)) (l .at + c .before .before .before .before .before .before .before .before .before .before .before .before .test-span .result) (st (c .before .before .before .before .before .before .before .before .before .before .before .before .before .before .before .before .before .before .test .last .1 .1 .1 .1 .0) (c .before .before .before .before .before .before .before .before .before .before .before .before .before .before .w .given .0 .0)) (recordOf (a .left) Branch) (repeat (branch (recordOf (a .left)))) (take (length (l .t .now) - c .before .before .before .before .before .before .before .before .before .before .before .before .test-span .result) (drop (c .before .before .before .before .before .before .before .before .before .before .before .before .test-span .result) (l .t .now))) (c .before .before .before .before .before .before .before .before .len .given .0 .0) (c .before .before .before .before .before .before .before .before .before .before .read-list .ensures) (c .before .before .before .before .before .before .before .before .len .given .1) (c .before .before .before .before .list .ensures) (not-done (tagOf the-type) (λ m. refl) (c .before .before .before .before .list .result) (c .before .match3 .keys2)))
+      let loop-test = c .before .before .before .before .before .before .before .before .before .before .before .before .before .before .before .before .before .before .before .before .loop-test in
+      let test = c .before .before .before .before .before .before .before .before .before .before .before .before .before .before .before .before .before .before .test in
+      let w = c .before .before .before .before .before .before .before .before .before .before .before .before .before .before .w in
+      let test-span = c .before .before .before .before .before .before .before .before .before .before .before .before .test-span in
+      let read-list = c .before .before .before .before .before .before .before .before .before .before .read-list in
+      let len = c .before .before .before .before .before .before .before .before .len in
+      let list = c .before .before .before .before .list in
+      rw (l .inv .1, repeat-step (branch (recordOf (a .left))) (branch-local (recordOf (a .left))) (l .t .now) (loop-test .taken), branch-on (noting (a .skip)) (l .at) (st (l .out) (l .count)) (recordOf (a .left)) (repeat (branch (recordOf (a .left)))) (l .t .now) (w .given .0 .0) (test-span .result) (test .ensures) (w .given .1) (test-span .ensures))
+      (listed-else (noting (a .skip)) (l .at + test-span .result) (st (test .last .1 .1 .1 .1 .0) (w .given .0 .0)) (recordOf (a .left) Branch) (repeat (branch (recordOf (a .left)))) (take (length (l .t .now) - test-span .result) (drop (test-span .result) (l .t .now))) (len .given .0 .0) (read-list .ensures) (len .given .1) (list .ensures) (not-done (tagOf the-type) (λ m. refl) (list .result) (c .before .match3 .keys2)))
 
   same-3 : lts.Need-same-length-3 (walk-branches-uses t) (walk-branches-at t) walk-branches.Post Inv μ
-  same-3 c = c .before .before .before .before .list .kept .1 .1 .1 .1 .1 .0 ∙ (c .before .before .before .before .before .before .before .before .before .before .before .before .before .before .before .before .before .before .test .kept .1 .1 .1 .1 .0 ∙ c .before .before .before .before .before .before .before .before .before .before .before .before .before .before .before .before .before .before .before .before .before .loop .inv .0 .2)
+  same-3 c =
+      let loop = c .before .before .before .before .before .before .before .before .before .before .before .before .before .before .before .before .before .before .before .before .before .loop in
+      let test = c .before .before .before .before .before .before .before .before .before .before .before .before .before .before .before .before .before .before .test in
+      let list = c .before .before .before .before .list in
+      list .kept .1 .1 .1 .1 .1 .0 ∙ (test .kept .1 .1 .1 .1 .0 ∙ loop .inv .0 .2)
 
   add-at : lts.Need-add-at (walk-branches-uses t) (walk-branches-at t) walk-branches.Post Inv μ
-  add-at c = omega (arith, span (c .before .before .before .before .before .before .before .before .before .before .before .before .before), fits (c .before .before .before .before .before .before .before .before), c .before .before .before .before .before .before .before .before .before .before .before .before .before .before .before .before .before .before .before .before .before .before .loop .inv .0, c .before .before .before .before .before .before .before .before .before .before .before .before .before .before .before .before .before .before .before .before .before .before .before .before .before .pre .1)
+  add-at c =
+      let start = c .before .before .before .before .before .before .before .before .before .before .before .before .before .before .before .before .before .before .before .before .before .before .before .before .before in
+      let loop = c .before .before .before .before .before .before .before .before .before .before .before .before .before .before .before .before .before .before .before .before .before .before .loop in
+      omega (arith, span (c .before .before .before .before .before .before .before .before .before .before .before .before .before), fits (c .before .before .before .before .before .before .before .before), loop .inv .0, start .pre .1)
 
   sub-t : lts.Need-sub-t (walk-branches-uses t) (walk-branches-at t) walk-branches.Post Inv μ
   sub-t c = omega (arith, fits (c .before .before .before .before .before .before .before .before), c .before .before .before .before .before .before .before .before .before .before .before .before .u .given .2)
@@ -97,15 +129,27 @@ module _ (t : ℕ) where
   part-t c = omega (arith, fits (c .before .before .before .before .before .before .before .before), c .before .before .before .before .before .before .before .before .before .before .before .before .u .given .2)
 
   less : lts.Need-loop-less (walk-branches-uses t) (walk-branches-at t) walk-branches.Post Inv μ
-  less c = omega (arith, span (c .before .before .before .before .before .before .before .before .before .before .before .before .before .before), fits (c .before .before .before .before .before .before .before .before .before), c .before .before .before .before .before .before .before .before .before .before .before .before .before .u .given .2, c .t .given .2)
+  less c =
+      let u = c .before .before .before .before .before .before .before .before .before .before .before .before .before .u in
+      omega (arith, span (c .before .before .before .before .before .before .before .before .before .before .before .before .before .before), fits (c .before .before .before .before .before .before .before .before .before), u .given .2, c .t .given .2)
 
   again : lts.Need-loop-again (walk-branches-uses t) (walk-branches-at t) walk-branches.Post Inv μ
   again c =
       let a = c .before .before .before .before .before .before .before .before .before .before .before .before .before .before .before .before .before .before .before .before .before .before .before .before .before .before .args in
-      let l = c .before .before .before .before .before .before .before .before .before .before .before .before .before .before .before .before .before .before .before .before .before .before .before .loop in (
-        omega (arith, span (c .before .before .before .before .before .before .before .before .before .before .before .before .before .before), fits (c .before .before .before .before .before .before .before .before .before), c .before .before .before .before .before .before .before .before .before .before .before .before .before .u .given .2, c .t .given .2, l .inv .0, c .before .before .before .before .before .before .before .before .before .before .before .before .before .before .before .before .before .before .before .before .test .kept, c .before .before .before .before .before .before .list .kept),
-        l .inv .1 ∙ rw (repeat-step (branch (recordOf (a .left))) (branch-local (recordOf (a .left))) (l .t .now) (c .before .before .before .before .before .before .before .before .before .before .before .before .before .before .before .before .before .before .before .before .before .before .loop-test .taken), branch-on (noting (a .skip)) (l .at) (st (l .out) (l .count)) (recordOf (a .left)) (repeat (branch (recordOf (a .left)))) (l .t .now) (c .before .before .before .before .before .before .before .before .before .before .before .before .before .before .before .before .w .given .0 .0) (c .before .before .before .before .before .before .before .before .before .before .before .before .before .before .test-span .result) (c .before .before .before .before .before .before .before .before .before .before .before .before .before .before .before .before .before .before .before .before .test .ensures) (c .before .before .before .before .before .before .before .before .before .before .before .before .before .before .before .before .w .given .1) (c .before .before .before .before .before .before .before .before .before .before .before .before .before .before .test-span .ensures))
-            (listed-on (noting (a .skip)) (l .at + c .before .before .before .before .before .before .before .before .before .before .before .before .before .before .test-span .result) (st (c .before .before .before .before .before .before .before .before .before .before .before .before .before .before .before .before .before .before .before .before .test .last .1 .1 .1 .1 .0) (c .before .before .before .before .before .before .before .before .before .before .before .before .before .before .before .before .w .given .0 .0)) (recordOf (a .left) Branch) (repeat (branch (recordOf (a .left)))) (take (length (l .t .now) - c .before .before .before .before .before .before .before .before .before .before .before .before .before .before .test-span .result) (drop (c .before .before .before .before .before .before .before .before .before .before .before .before .before .before .test-span .result) (l .t .now))) (c .before .before .before .before .before .before .before .before .before .before .len .given .0 .0) (c .before .before .x .given .0 .0) (c .before .before .before .before .before .before .before .before .before .before .before .before .read-list .ensures) (c .before .before .before .before .before .before .before .before .before .before .len .given .1) (c .before .before .before .before .before .before .list .ensures) (c .before .before .x .given .1)),
+      let loop = c .before .before .before .before .before .before .before .before .before .before .before .before .before .before .before .before .before .before .before .before .before .before .before .loop in
+      let loop-test = c .before .before .before .before .before .before .before .before .before .before .before .before .before .before .before .before .before .before .before .before .before .before .loop-test in
+      let test = c .before .before .before .before .before .before .before .before .before .before .before .before .before .before .before .before .before .before .before .before .test in
+      let w = c .before .before .before .before .before .before .before .before .before .before .before .before .before .before .before .before .w in
+      let test-span = c .before .before .before .before .before .before .before .before .before .before .before .before .before .before .test-span in
+      let u = c .before .before .before .before .before .before .before .before .before .before .before .before .before .u in
+      let read-list = c .before .before .before .before .before .before .before .before .before .before .before .before .read-list in
+      let len = c .before .before .before .before .before .before .before .before .before .before .len in
+      let list = c .before .before .before .before .before .before .list in
+      let x = c .before .before .x in
+      let l = loop in (
+        omega (arith, span (c .before .before .before .before .before .before .before .before .before .before .before .before .before .before), fits (c .before .before .before .before .before .before .before .before .before), u .given .2, c .t .given .2, l .inv .0, test .kept, list .kept),
+        l .inv .1 ∙ rw (repeat-step (branch (recordOf (a .left))) (branch-local (recordOf (a .left))) (l .t .now) (loop-test .taken), branch-on (noting (a .skip)) (l .at) (st (l .out) (l .count)) (recordOf (a .left)) (repeat (branch (recordOf (a .left)))) (l .t .now) (w .given .0 .0) (test-span .result) (test .ensures) (w .given .1) (test-span .ensures))
+            (listed-on (noting (a .skip)) (l .at + test-span .result) (st (test .last .1 .1 .1 .1 .0) (w .given .0 .0)) (recordOf (a .left) Branch) (repeat (branch (recordOf (a .left)))) (take (length (l .t .now) - test-span .result) (drop (test-span .result) (l .t .now))) (len .given .0 .0) (x .given .0 .0) (read-list .ensures) (len .given .1) (list .ensures) (x .given .1)),
       )
 
   finished : lts.Need-returns-4 (walk-branches-uses t) (walk-branches-at t) walk-branches.Post Inv μ

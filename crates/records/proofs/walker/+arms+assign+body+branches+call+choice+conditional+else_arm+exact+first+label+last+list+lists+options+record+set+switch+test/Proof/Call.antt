@@ -38,7 +38,9 @@ module _ (t : ℕ) where
   rest : lts.Need-returns-2 (walk-call-uses t) (walk-call-at t) walk-call.Post
   rest c =
       let a = c .before .before .before .before .before .before .before .before .before .before .before .args in
-      rw (named-on (noting (a .skip)) (a .base) (st (a .out .now) (a .n)) (records (recordOf (a .left) (a .role))) (a .s .now) (c .before .before .before .before .before .before .answer2 .given .0 .0) (c .before .before .before .before .before .before .before .before .read-name .ensures) (c .before .before .before .before .before .before .answer2 .given .1)) (c .before .before .list .ensures)
+      let read-name = c .before .before .before .before .before .before .before .before .read-name in
+      let answer2 = c .before .before .before .before .before .before .answer2 in
+      rw (named-on (noting (a .skip)) (a .base) (st (a .out .now) (a .n)) (records (recordOf (a .left) (a .role))) (a .s .now) (answer2 .given .0 .0) (read-name .ensures) (answer2 .given .1)) (c .before .before .list .ensures)
 
   pub ok : {M : Type 1} → lts.Closed (walk-call-uses t) (walk-call-at t) walk-call.Post M
   ok = lts.spec (walk-call-uses t) (walk-call-at t) walk-call.Post (λ c κs. search needs) (λ c. search needs) (λ c. search needs) add-e sub-rest part-rest (λ c. search needs) add-base rest-requires cut (λ c. search needs) rest

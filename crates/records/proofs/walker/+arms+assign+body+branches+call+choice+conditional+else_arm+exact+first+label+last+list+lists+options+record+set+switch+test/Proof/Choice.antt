@@ -45,12 +45,16 @@ module _ (t : ℕ) where
   by-off : lts.Need-returns (walk-choice-uses t) (walk-choice-at t) walk-choice.Post
   by-off c =
       let a = c .before .before .before .before .before .before .before .before .before .before .args in
-      rw (flagged-off (noting (a .skip)) (a .base) (st (a .out .now) (a .n)) (options (recordOf (a .left))) (named (options (recordOf (a .left)))) (a .s .now) (c .before .before .before .before .before .before .before .read-flag .ensures) (c .before .before .before .before .before .enum-told .given .1)) (c .before .before .options .ensures)
+      let read-flag = c .before .before .before .before .before .before .before .read-flag in
+      let enum-told = c .before .before .before .before .before .enum-told in
+      rw (flagged-off (noting (a .skip)) (a .base) (st (a .out .now) (a .n)) (options (recordOf (a .left))) (named (options (recordOf (a .left)))) (a .s .now) (read-flag .ensures) (enum-told .given .1)) (c .before .before .options .ensures)
 
   by-on : lts.Need-returns-2 (walk-choice-uses t) (walk-choice-at t) walk-choice.Post
   by-on c =
       let a = c .before .before .before .before .before .before .before .before .before .before .args in
-      rw (flagged-on (noting (a .skip)) (a .base) (st (a .out .now) (a .n)) (options (recordOf (a .left))) (named (options (recordOf (a .left)))) (a .s .now) (c .before .before .before .before .before .before .before .read-flag .ensures) (c .before .before .before .before .before .enum-told2 .given .1)) (c .before .before .label .ensures)
+      let read-flag = c .before .before .before .before .before .before .before .read-flag in
+      let enum-told2 = c .before .before .before .before .before .enum-told2 in
+      rw (flagged-on (noting (a .skip)) (a .base) (st (a .out .now) (a .n)) (options (recordOf (a .left))) (named (options (recordOf (a .left)))) (a .s .now) (read-flag .ensures) (enum-told2 .given .1)) (c .before .before .label .ensures)
 
   refused : lts.Need-returns-3 (walk-choice-uses t) (walk-choice-at t) walk-choice.Post
   refused c =

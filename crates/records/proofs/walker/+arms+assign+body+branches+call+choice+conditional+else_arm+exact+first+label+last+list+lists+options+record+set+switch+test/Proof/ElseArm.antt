@@ -47,7 +47,9 @@ module _ (t : ℕ) where
   unfolding orElse
   by-on c =
       let a = c .before .before .before .before .before .before .before .before .before .before .args in
-      rw (flagged-on (noting (a .skip)) (a .base) (st (a .out .now) (a .n)) ending (last Branch (recordOf (a .left))) (a .s .now) (c .before .before .before .before .before .before .before .read-flag .ensures) (c .before .before .before .before .before .enum-told2 .given .1)) (c .before .before .last .ensures)
+      let read-flag = c .before .before .before .before .before .before .before .read-flag in
+      let enum-told2 = c .before .before .before .before .before .enum-told2 in
+      rw (flagged-on (noting (a .skip)) (a .base) (st (a .out .now) (a .n)) ending (last Branch (recordOf (a .left))) (a .s .now) (read-flag .ensures) (enum-told2 .given .1)) (c .before .before .last .ensures)
 
   refused : lts.Need-returns-3 (walk-else-uses t) (walk-else-at t) walk-else.Post
   unfolding orElse

@@ -29,7 +29,9 @@ module _ (t : ℕ) where
   other : lts.Need-returns-2 (walk-exact-uses t) (walk-exact-at t) walk-exact.Post
   other c =
       let a = c .before .before .before .before .before .before .before .before .before .args in
-      rw (exact-step (a .many) (recordOf (a .left) (a .role)) (a .s .now) (c .before .before .before .before .before .before .if1 .left)) (first-else (noting (a .skip)) (a .base) (st (a .out .now) (a .n)) (recordOf (a .left) (a .role)) (a .s .now) (c .before .before .before .before .first .ensures) (exact (a .many - 1) (recordOf (a .left) (a .role))) (not-done (tagOf the-type) (λ m. refl) (c .before .before .before .before .first .result) (c .before .match .keys2)))
+      let if1 = c .before .before .before .before .before .before .if1 in
+      let first = c .before .before .before .before .first in
+      rw (exact-step (a .many) (recordOf (a .left) (a .role)) (a .s .now) (if1 .left)) (first-else (noting (a .skip)) (a .base) (st (a .out .now) (a .n)) (recordOf (a .left) (a .role)) (a .s .now) (first .ensures) (exact (a .many - 1) (recordOf (a .left) (a .role))) (not-done (tagOf the-type) (λ m. refl) (first .result) (c .before .match .keys2)))
 
   fits : (c : lts.After-front-span (walk-exact-uses t) (walk-exact-at t) walk-exact.Post) → (5 ≤ c .front-span .result) × (c .front-span .result ≤ length (c .before .before .before .before .before .before .before .before .before .before .before .args .s .now))
   fits c =
@@ -46,12 +48,18 @@ module _ (t : ℕ) where
   add-base c = omega (arith, fits (c .before), c .before .before .before .before .before .before .before .before .before .before .before .before .pre .1)
 
   rest-requires : lts.Need-exact-requires (walk-exact-uses t) (walk-exact-at t) walk-exact.Post
-  rest-requires c κs = omega (arith, fits (c .before .before), c .before .exact-arg .given .2, c .before .before .before .before .before .before .before .before .before .before .before .before .before .pre .0, c .before .before .before .before .before .before .before .before .before .before .before .before .before .pre .1)
+  rest-requires c κs =
+      let start = c .before .before .before .before .before .before .before .before .before .before .before .before .before in
+      omega (arith, fits (c .before .before), c .before .exact-arg .given .2, start .pre .0, start .pre .1)
 
   rest : lts.Need-returns-3 (walk-exact-uses t) (walk-exact-at t) walk-exact.Post
   rest c =
       let a = c .before .before .before .before .before .before .before .before .before .before .before .before .before .before .before .before .args in
-      rw (exact-step (a .many) (recordOf (a .left) (a .role)) (a .s .now) (c .before .before .before .before .before .before .before .before .before .before .before .before .before .if1 .left), first-on (noting (a .skip)) (a .base) (st (a .out .now) (a .n)) (recordOf (a .left) (a .role)) (a .s .now) (c .before .before .before .before .before .before .before .before .before .before .before .first .ensures) (exact (a .many - 1) (recordOf (a .left) (a .role))) (c .before .before .before .before .before .before .before .w .given .0 .0) (c .before .before .before .before .before .front-span .result) (c .before .before .before .before .before .before .before .w .given .1) (c .before .before .before .before .before .front-span .ensures)) (c .before .before .exact .ensures)
+      let if1 = c .before .before .before .before .before .before .before .before .before .before .before .before .before .if1 in
+      let first = c .before .before .before .before .before .before .before .before .before .before .before .first in
+      let w = c .before .before .before .before .before .before .before .w in
+      let front-span = c .before .before .before .before .before .front-span in
+      rw (exact-step (a .many) (recordOf (a .left) (a .role)) (a .s .now) (if1 .left), first-on (noting (a .skip)) (a .base) (st (a .out .now) (a .n)) (recordOf (a .left) (a .role)) (a .s .now) (first .ensures) (exact (a .many - 1) (recordOf (a .left) (a .role))) (w .given .0 .0) (front-span .result) (w .given .1) (front-span .ensures)) (c .before .before .exact .ensures)
 
   pub ok : {M : Type 1} → lts.Closed (walk-exact-uses t) (walk-exact-at t) walk-exact.Post M
   ok = lts.spec (walk-exact-uses t) (walk-exact-at t) walk-exact.Post (λ c κs. search needs) at-0 first-requires (λ c. search needs) (λ c. search needs) (λ c. search needs) other (λ c κs. search needs) sub-rest part-rest (λ c. search needs) sub-many add-base rest-requires (λ c. search needs) rest

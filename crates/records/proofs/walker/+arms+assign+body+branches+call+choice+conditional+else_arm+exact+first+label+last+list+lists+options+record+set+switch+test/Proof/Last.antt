@@ -54,8 +54,12 @@ module _ (t : ℕ) where
   unfolding last
   rest c =
       let a = c .before .before .before .before .before .before .before .before .before .before .before .before .before .before .before .before .args in
-      let k = c .before .before .before .before .before .before .before .before .before .before .before .len .given in
-      rw (listed-on (noting (a .skip)) (a .base) (st (a .out .now) (a .n)) (recordOf (a .left) (a .role)) ending (a .s .now) (k .0 .0) (c .before .before .before .w .given .0 .0) (c .before .before .before .before .before .before .before .before .before .before .before .before .before .read-list .ensures) (k .1) (c .before .before .before .before .before .before .before .list .ensures) (c .before .before .before .w .given .1)) (told-end _ _ _ _ (c .at-end .ensures))
+      let read-list = c .before .before .before .before .before .before .before .before .before .before .before .before .before .read-list in
+      let len = c .before .before .before .before .before .before .before .before .before .before .before .len in
+      let list = c .before .before .before .before .before .before .before .list in
+      let w = c .before .before .before .w in
+      let k = len .given in
+      rw (listed-on (noting (a .skip)) (a .base) (st (a .out .now) (a .n)) (recordOf (a .left) (a .role)) ending (a .s .now) (k .0 .0) (w .given .0 .0) (read-list .ensures) (k .1) (list .ensures) (w .given .1)) (told-end _ _ _ _ (c .at-end .ensures))
 
   pub ok : {M : Type 1} → lts.Closed (walk-last-uses t) (walk-last-at t) walk-last.Post M
   ok = lts.spec (walk-last-uses t) (walk-last-at t) walk-last.Post (λ c κs. search needs) (λ c. search needs) (λ c. search needs) cut add-e (λ c. search needs) (λ c. search needs) part-end add-4 piece-requires (λ c. search needs) (λ c. search needs) (λ c. search needs) other sub-rest part-rest (λ c. search needs) (λ c κs. search needs) (λ c. search needs) rest

@@ -46,7 +46,10 @@ module _ (t : ℕ) where
   part-end c = omega (arith, fits c)
 
   piece-requires : lts.Need-record-requires (walk-list-uses t) (walk-list-at t) walk-list.Post Inv μ
-  piece-requires c κs = omega (arith, fits (c .before .before), c .before .record-arg .given .2, c .before .before .before .before .before .before .before .loop .inv .0, c .before .before .before .before .before .before .before .before .before .before .pre .0, c .before .before .before .before .before .before .before .before .before .before .pre .1)
+  piece-requires c κs =
+      let start = c .before .before .before .before .before .before .before .before .before .before in
+      let loop = c .before .before .before .before .before .before .before .loop in
+      omega (arith, fits (c .before .before), c .before .record-arg .given .2, loop .inv .0, start .pre .0, start .pre .1)
 
   other : lts.Need-returns-2 (walk-list-uses t) (walk-list-at t) walk-list.Post Inv μ
   other c =
@@ -58,7 +61,10 @@ module _ (t : ℕ) where
       (c .before .before .before .before .before .before .before .before .before .before .read-head .ensures) (k .1) (c .before .before .before .before .record .ensures) (not-done (tagOf the-type) (λ m. refl) (c .before .before .before .before .record .result) (c .before .match2 .keys2)))
 
   add-at : lts.Need-add-at (walk-list-uses t) (walk-list-at t) walk-list.Post Inv μ
-  add-at c = omega (arith, fits (c .before .before .before .before .before .before .before .before), c .before .before .before .before .before .before .before .before .before .before .before .before .before .loop .inv .0, c .before .before .before .before .before .before .before .before .before .before .before .before .before .before .before .before .pre .1)
+  add-at c =
+      let start = c .before .before .before .before .before .before .before .before .before .before .before .before .before .before .before .before in
+      let loop = c .before .before .before .before .before .before .before .before .before .before .before .before .before .loop in
+      omega (arith, fits (c .before .before .before .before .before .before .before .before), loop .inv .0, start .pre .1)
 
   sub-t : lts.Need-sub-t (walk-list-uses t) (walk-list-at t) walk-list.Post Inv μ
   sub-t c = fits (c .before .before .before .before .before .before .before .before)

@@ -50,7 +50,10 @@ module _ (t : ℕ) where
   add-4 c = omega (arith, fits (c .before), c .before .before .before .before .before .before .loop .inv .0, c .before .before .before .before .before .before .before .before .before .pre .1)
 
   piece-requires : lts.Need-list-requires (walk-lists-uses t) (walk-lists-at t) walk-lists.Post Inv μ
-  piece-requires c κs = omega (arith, fits (c .before .before), c .before .list-arg .given .2, c .before .before .before .before .before .before .before .loop .inv .0, c .before .before .before .before .before .before .before .before .before .before .pre .0, c .before .before .before .before .before .before .before .before .before .before .pre .1)
+  piece-requires c κs =
+      let start = c .before .before .before .before .before .before .before .before .before .before in
+      let loop = c .before .before .before .before .before .before .before .loop in
+      omega (arith, fits (c .before .before), c .before .list-arg .given .2, loop .inv .0, start .pre .0, start .pre .1)
 
   other : lts.Need-returns-2 (walk-lists-uses t) (walk-lists-at t) walk-lists.Post Inv μ
   other c =
@@ -62,7 +65,10 @@ module _ (t : ℕ) where
       (c .before .before .before .before .before .before .before .before .before .before .read-list .ensures) (k .1) (c .before .before .before .before .list .ensures) (not-done (tagOf the-type) (λ m. refl) (c .before .before .before .before .list .result) (c .before .match2 .keys2)))
 
   add-at : lts.Need-add-at (walk-lists-uses t) (walk-lists-at t) walk-lists.Post Inv μ
-  add-at c = omega (arith, fits (c .before .before .before .before .before .before .before .before), c .before .before .before .before .before .before .before .before .before .before .before .before .before .loop .inv .0, c .before .before .before .before .before .before .before .before .before .before .before .before .before .before .before .before .pre .1)
+  add-at c =
+      let start = c .before .before .before .before .before .before .before .before .before .before .before .before .before .before .before .before in
+      let loop = c .before .before .before .before .before .before .before .before .before .before .before .before .before .loop in
+      omega (arith, fits (c .before .before .before .before .before .before .before .before), loop .inv .0, start .pre .1)
 
   sub-t : lts.Need-sub-t (walk-lists-uses t) (walk-lists-at t) walk-lists.Post Inv μ
   sub-t c = fits (c .before .before .before .before .before .before .before .before)

@@ -55,14 +55,20 @@ module _ (t : ℕ) where
   add-base c = omega (arith, fits (c .before .before .before .before .before .before .before .before .before), c .before .before .before .before .before .before .before .before .before .before .before .before .before .before .before .pre .1)
 
   rest-requires : lts.Need-last-requires (walk-options-uses t) (walk-options-at t) walk-options.Post
-  rest-requires c κs = omega (arith, fits (c .before .before .before .before .before .before .before .before .before .before), c .before .last-arg .given .2, c .before .before .before .before .before .before .before .before .before .before .before .before .before .before .before .before .pre .0, c .before .before .before .before .before .before .before .before .before .before .before .before .before .before .before .before .pre .1)
+  rest-requires c κs =
+      let start = c .before .before .before .before .before .before .before .before .before .before .before .before .before .before .before .before in
+      omega (arith, fits (c .before .before .before .before .before .before .before .before .before .before), c .before .last-arg .given .2, start .pre .0, start .pre .1)
 
   rest : lts.Need-returns-3 (walk-options-uses t) (walk-options-at t) walk-options.Post
   unfolding options
   rest c =
       let a = c .before .before .before .before .before .before .before .before .before .before .before .before .before .before .before .before .before .before .before .args in
-      let k = c .before .before .before .before .before .before .before .before .before .before .before .before .before .before .len .given in
-      rw (listed-on (noting (a .skip)) (a .base) (st (a .out .now) (a .n)) (recordOf (a .left) Cond) (last Node (recordOf (a .left))) (a .s .now) (k .0 .0) (c .before .before .before .before .before .before .w .given .0 .0) (c .before .before .before .before .before .before .before .before .before .before .before .before .before .before .before .before .read-list .ensures) (k .1) (c .before .before .before .before .before .before .before .before .before .before .list .ensures) (c .before .before .before .before .before .before .w .given .1)) (c .before .before .last .ensures)
+      let read-list = c .before .before .before .before .before .before .before .before .before .before .before .before .before .before .before .before .read-list in
+      let len = c .before .before .before .before .before .before .before .before .before .before .before .before .before .before .len in
+      let list = c .before .before .before .before .before .before .before .before .before .before .list in
+      let w = c .before .before .before .before .before .before .w in
+      let k = len .given in
+      rw (listed-on (noting (a .skip)) (a .base) (st (a .out .now) (a .n)) (recordOf (a .left) Cond) (last Node (recordOf (a .left))) (a .s .now) (k .0 .0) (w .given .0 .0) (read-list .ensures) (k .1) (list .ensures) (w .given .1)) (c .before .before .last .ensures)
 
   pub ok : {M : Type 1} → lts.Closed (walk-options-uses t) (walk-options-at t) walk-options.Post M
   ok = lts.spec (walk-options-uses t) (walk-options-at t) walk-options.Post (λ c κs. search needs) (λ c. search needs) (λ c. search needs) cut add-e (λ c. search needs) (λ c. search needs) part-end add-4 piece-requires (λ c. search needs) (λ c. search needs) (λ c. search needs) other sub-rest part-rest (λ c. search needs) add-base rest-requires (λ c. search needs) rest

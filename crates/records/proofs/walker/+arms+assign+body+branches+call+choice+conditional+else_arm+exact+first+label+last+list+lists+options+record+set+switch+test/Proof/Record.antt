@@ -31,7 +31,11 @@ module _ (t : ℕ) where
   rest : lts.Need-returns-3 (walk-record-uses t) (walk-record-at t) walk-record.Post
   rest c =
       let a = c .before .before .before .before .before .before .before .before .before .before .before .before .before .before .before .args in
-      rw (record-on (noting (a .skip)) (a .base) (st (a .out .now) (a .n)) (a .left) (a .role) (a .kind) (a .s .now) (c .before .before .before .before .before .before .before .before .before .before .shape .given .0 .0) (c .before .before .before .before .before .before .before .before .before .before .before .before .read-kind .ensures) (c .before .before .before .before .before .before .before .before .before .before .shape .given .1) (c .before .before .before .before .before .before .before .before .if1 .left) (c .before .before .before .before .before .before .note .ensures))
+      let read-kind = c .before .before .before .before .before .before .before .before .before .before .before .before .read-kind in
+      let shape = c .before .before .before .before .before .before .before .before .before .before .shape in
+      let if1 = c .before .before .before .before .before .before .before .before .if1 in
+      let note = c .before .before .before .before .before .before .note in
+      rw (record-on (noting (a .skip)) (a .base) (st (a .out .now) (a .n)) (a .left) (a .role) (a .kind) (a .s .now) (shape .given .0 .0) (read-kind .ensures) (shape .given .1) (if1 .left) (note .ensures))
       (c .before .before .body .ensures)
 
   pub ok : {M : Type 1} → lts.Closed (walk-record-uses t) (walk-record-at t) walk-record.Post M

@@ -21,7 +21,8 @@ module _ (t : ℕ) where
   other : lts.Need-returns (walk-switch-uses t) (walk-switch-at t) walk-switch.Post
   other c =
       let a = c .before .before .before .before .before .before .before .before .args in
-      (first-else (noting (a .skip)) (a .base) (st (a .out .now) (a .n)) (recordOf (a .left) Visited) (a .s .now) (c .before .before .before .before .first .ensures) (repeat (branch (recordOf (a .left)))) (not-done (tagOf the-type) (λ m. refl) (c .before .before .before .before .first .result) (c .before .match .keys2)))
+      let first = c .before .before .before .before .first in
+      (first-else (noting (a .skip)) (a .base) (st (a .out .now) (a .n)) (recordOf (a .left) Visited) (a .s .now) (first .ensures) (repeat (branch (recordOf (a .left)))) (not-done (tagOf the-type) (λ m. refl) (first .result) (c .before .match .keys2)))
 
   fits : (c : lts.After-front-span (walk-switch-uses t) (walk-switch-at t) walk-switch.Post) → (5 ≤ c .front-span .result) × (c .front-span .result ≤ length (c .before .before .before .before .before .before .before .before .before .before .args .s .now))
   fits c =
@@ -38,12 +39,17 @@ module _ (t : ℕ) where
   add-base c = omega (arith, fits (c .before), c .before .before .before .before .before .before .before .before .before .before .before .pre .1)
 
   rest-requires : lts.Need-branches-requires (walk-switch-uses t) (walk-switch-at t) walk-switch.Post
-  rest-requires c κs = omega (arith, fits (c .before .before), c .before .branches-arg .given .2, c .before .before .before .before .before .before .before .before .before .before .before .before .pre .0, c .before .before .before .before .before .before .before .before .before .before .before .before .pre .1)
+  rest-requires c κs =
+      let start = c .before .before .before .before .before .before .before .before .before .before .before .before in
+      omega (arith, fits (c .before .before), c .before .branches-arg .given .2, start .pre .0, start .pre .1)
 
   rest : lts.Need-returns-2 (walk-switch-uses t) (walk-switch-at t) walk-switch.Post
   rest c =
       let a = c .before .before .before .before .before .before .before .before .before .before .before .before .before .before .before .args in
-      rw (first-on (noting (a .skip)) (a .base) (st (a .out .now) (a .n)) (recordOf (a .left) Visited) (a .s .now) (c .before .before .before .before .before .before .before .before .before .before .before .first .ensures) (repeat (branch (recordOf (a .left)))) (c .before .before .before .before .before .before .before .w .given .0 .0) (c .before .before .before .before .before .front-span .result) (c .before .before .before .before .before .before .before .w .given .1) (c .before .before .before .before .before .front-span .ensures)) (c .before .before .branches .ensures)
+      let first = c .before .before .before .before .before .before .before .before .before .before .before .first in
+      let w = c .before .before .before .before .before .before .before .w in
+      let front-span = c .before .before .before .before .before .front-span in
+      rw (first-on (noting (a .skip)) (a .base) (st (a .out .now) (a .n)) (recordOf (a .left) Visited) (a .s .now) (first .ensures) (repeat (branch (recordOf (a .left)))) (w .given .0 .0) (front-span .result) (w .given .1) (front-span .ensures)) (c .before .before .branches .ensures)
 
   pub ok : {M : Type 1} → lts.Closed (walk-switch-uses t) (walk-switch-at t) walk-switch.Post M
   ok = lts.spec (walk-switch-uses t) (walk-switch-at t) walk-switch.Post first-requires (λ c. search needs) (λ c. search needs) (λ c. search needs) other (λ c κs. search needs) sub-rest part-rest (λ c. search needs) add-base rest-requires (λ c. search needs) rest

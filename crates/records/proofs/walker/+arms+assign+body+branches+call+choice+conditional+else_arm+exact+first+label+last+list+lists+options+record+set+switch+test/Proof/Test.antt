@@ -39,7 +39,9 @@ module _ (t : ℕ) where
   unfolding tested
   by-on c =
       let a = c .before .before .before .before .before .before .before .before .before .before .args in
-      rw (flagged-on (noting (a .skip)) (a .base) (st (a .out .now) (a .n)) nothing (front (recordOf (a .left) Visited) nothing) (a .s .now) (c .before .before .before .before .before .before .before .read-flag .ensures) (c .before .before .before .before .before .enum-told2 .given .1)) (c .before .before .first .ensures)
+      let read-flag = c .before .before .before .before .before .before .before .read-flag in
+      let enum-told2 = c .before .before .before .before .before .enum-told2 in
+      rw (flagged-on (noting (a .skip)) (a .base) (st (a .out .now) (a .n)) nothing (front (recordOf (a .left) Visited) nothing) (a .s .now) (read-flag .ensures) (enum-told2 .given .1)) (c .before .before .first .ensures)
 
   refused : lts.Need-returns-3 (walk-test-uses t) (walk-test-at t) walk-test.Post
   unfolding tested

@@ -8,8 +8,8 @@ use Rattle.bodies.specs.Search.{bears, foundAmong}
 use Rattle.bodies.proofs.Fetching.{fetched-item}
 use Rattle.bodies.proofs.Searching.{Passed, passed-start, passed-end, passed-found, passed-next}
 use borrow.Author.Needs.{needs}
-use Rattle.bodies.proofs.searches.found_before.Statement.{statement}
-use Rattle.bodies.proofs.searches.found_before.Tie as tie
+use Rattle.bodies.proofs.named.found_before.Statement.{statement}
+use Rattle.bodies.proofs.named.found_before.Tie as tie
 
 abbrev Inv-loop : tie.InvT-loop
 Inv-loop sought file from to end name scratch₀ skip₀ i₀ scratch skip i = ((i ≤ end) × (skip ≤ i) × (length scratch ≡ length scratch₀)) × Fetched file from to skip scratch × Passed (bears sought name) (bodyIn file from to) end i
@@ -64,7 +64,10 @@ loop-less : tie.Need-loop-less Inv-loop μ-loop
 loop-less c = search needs
 
 loop-again : tie.Need-loop-again Inv-loop μ-loop
-loop-again c = (omega arith, c .before .before .before .before .before .before .fetch .ensures .window, passed-next (c .before .before .before .before .before .before .before .before .before .loop .inv .2) (omega arith) (fetched-item (c .before .before .before .before .before .before .fetch .ensures) (omega arith)) (c .before .bears-name .ensures) (c .if1 .left))
+loop-again c =
+    let loop = c .before .before .before .before .before .before .before .before .before .loop in
+    let fetch = c .before .before .before .before .before .before .fetch in
+    (omega arith, fetch .ensures .window, passed-next (loop .inv .2) (omega arith) (fetched-item (fetch .ensures) (omega arith)) (c .before .bears-name .ensures) (c .if1 .left))
 
 same-length-2 : tie.Need-same-length-2 Inv-loop μ-loop
 same-length-2 c = search needs

@@ -1,8 +1,8 @@
 -- `is_of_sort`: each case of what is sought is a test on the item. Assumes nothing.
 use Rattle.bodies.specs.Search.{ofSort}
 use borrow.Author.Needs.{needs}
-use Rattle.bodies.proofs.searches.is_of_sort.Statement.{statement}
-use Rattle.bodies.proofs.searches.is_of_sort.Tie as tie
+use Rattle.bodies.proofs.named.is_of_sort.Statement.{statement}
+use Rattle.bodies.proofs.named.is_of_sort.Tie as tie
 
 enum-told : tie.Need-enum-told
 enum-told c = search needs

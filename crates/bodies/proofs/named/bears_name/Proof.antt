@@ -1,8 +1,8 @@
 -- `bears_name`: the sort first, then the name. Assumes nothing.
 use Rattle.bodies.specs.Search.{bears}
 use borrow.Author.Needs.{needs}
-use Rattle.bodies.proofs.searches.bears_name.Statement.{statement}
-use Rattle.bodies.proofs.searches.bears_name.Tie as tie
+use Rattle.bodies.proofs.named.bears_name.Statement.{statement}
+use Rattle.bodies.proofs.named.bears_name.Tie as tie
 
 is-of-sort-requires : tie.Need-is-of-sort-requires
 is-of-sort-requires c κs = search needs

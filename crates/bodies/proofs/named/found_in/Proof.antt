@@ -2,8 +2,8 @@
 use native.Mathlib.Omega.{arith}
 use Rattle.bodies.proofs.Searching.{found-all}
 use borrow.Author.Needs.{needs}
-use Rattle.bodies.proofs.searches.found_in.Statement.{statement}
-use Rattle.bodies.proofs.searches.found_in.Tie as tie
+use Rattle.bodies.proofs.named.found_in.Statement.{statement}
+use Rattle.bodies.proofs.named.found_in.Tie as tie
 
 count-items-requires : tie.Need-count-items-requires
 count-items-requires c κs = search needs
@@ -15,7 +15,10 @@ same-length : tie.Need-same-length
 same-length c = search needs
 
 returns : tie.Need-returns
-returns c = found-all (c .before .before .before .before .before .before .before .before .before .before .before .args .sought) (c .before .before .before .before .before .before .before .before .before .before .before .args .name .now) (c .before .before .before .before .before .before .count-items .ensures) (c .before .before .found-before .ensures)
+returns c =
+    let start = c .before .before .before .before .before .before .before .before .before .before .before in
+    let count-items = c .before .before .before .before .before .before .count-items in
+    found-all (start .args .sought) (start .args .name .now) (count-items .ensures) (c .before .before .found-before .ensures)
 
 pub found-in-spec : {M : Type 1} → statement M
 found-in-spec = tie.close (tie.spec count-items-requires found-before-requires same-length returns)

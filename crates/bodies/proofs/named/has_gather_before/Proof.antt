@@ -1,11 +1,11 @@
 -- `has_gather_before`: found as a gather, before item number i or among all. Assumes nothing.
 use native.Mathlib.Omega.{arith}
-use Rattle.bodies.specs.declared.searches.Sought.the-variants.{Gather}
+use Rattle.bodies.specs.declared.named.Sought.the-variants.{Gather}
 use Rattle.bodies.specs.Search.{ofSort, bears, foundAmong}
 use Rattle.bodies.proofs.Searching.{found-more}
 use borrow.Author.Needs.{needs}
-use Rattle.bodies.proofs.searches.has_gather_before.Statement.{statement}
-use Rattle.bodies.proofs.searches.has_gather_before.Tie as tie
+use Rattle.bodies.proofs.named.has_gather_before.Statement.{statement}
+use Rattle.bodies.proofs.named.has_gather_before.Tie as tie
 
 count-items-requires : tie.Need-count-items-requires
 count-items-requires c κs = search needs
@@ -28,7 +28,11 @@ same-length-2 c = search needs
 
 returns-2 : tie.Need-returns-2
 unfolding ofSort bears foundAmong
-returns-2 c = found-more Gather (c .before .before .before .before .before .before .before .before .before .before .before .before .args .name .now) (c .before .before .before .before .before .before .before .count-items .ensures) (c .before .before .found-before2 .ensures) (c .before .before .before .before .before .before .before .before .before .before .before .before .args .i) (c .before .before .before .before .if1 .left)
+returns-2 c =
+    let start = c .before .before .before .before .before .before .before .before .before .before .before .before in
+    let count-items = c .before .before .before .before .before .before .before .count-items in
+    let if1 = c .before .before .before .before .if1 in
+    found-more Gather (start .args .name .now) (count-items .ensures) (c .before .before .found-before2 .ensures) (start .args .i) (if1 .left)
 
 pub has-gather-before-spec : {M : Type 1} → statement M
 has-gather-before-spec =
