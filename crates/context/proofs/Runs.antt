@@ -41,7 +41,7 @@ module _ (s : Story) (us vs : List Run) where
   runs-passed e f g = rw (runs-append s us vs, ← e, f) g
 
 -- steps between those that find nothing
-pub runs-between : (s : Story) (us vs ws : List Run) → found.Clear ≡ foundRuns s (us ++ ws) → {r : Found} → r ≡ foundRuns s vs → r ≡ foundRuns s (us ++ vs ++ ws)
+runs-between : (s : Story) (us vs ws : List Run) → found.Clear ≡ foundRuns s (us ++ ws) → {r : Found} → r ≡ foundRuns s vs → r ≡ foundRuns s (us ++ vs ++ ws)
 unfolding orElse
 runs-between s us vs ws e g =
     let none = both-clear (foundRuns s us) (foundRuns s ws) (e ∙ runs-append s us ws) in
@@ -171,12 +171,64 @@ flow-runs f =
     let gathered = over (knot f) (f .body) (s19 ∷ []) in
     ap (λ (l : List Run). l ++ gathered) (append-assoc (firstRuns f) body stitches) ∙ append-assoc (firstRuns f) (body ++ stitches) gathered
 
+-- steps 5 and 6, by what step 5 finds
+module _ (file : List ℕ) (c : Sections) (v : FlowView) (ready : FlowReady file v) {q : Found}
+    (e : q ≡ foundRuns (storyIn c file) (over (knot (viewedFlow file v)) (purityItems (v .function) (viewedFlow file v)) (s5 ∷ []))) where
+  pub purity-found : {b : BreachAt} → q ≡ found.Breach b → q ≡ foundRuns (storyIn c file) (firstRuns (viewedFlow file v))
+  purity-found g =
+      let f = viewedFlow file v in
+      runs-found (storyIn c file) (over (knot f) (purityItems (f .function) f) (s5 ∷ [])) (over (knot f) (paramItems (f .params)) (s6 ∷ [])) e g
+
+  pub purity-passed : q ≡ found.Clear → {r : Found} → ((h : Here) → r ≡ paramsFound file c h (v .name) (viewedFlow file v .params))
+      → r ≡ foundRuns (storyIn c file) (firstRuns (viewedFlow file v))
+  purity-passed g k =
+      let f = viewedFlow file v in
+      let params = params-run file c v ready k in
+      runs-passed (storyIn c file) (over (knot f) (purityItems (f .function) f) (s5 ∷ [])) (over (knot f) (paramItems (f .params)) (s6 ∷ [])) e g params
+
+-- all steps of a flow, by what steps 5 and 6 find
+module _ (file : List ℕ) (c : Sections) (v : FlowView) {q : Found} (e : q ≡ foundRuns (storyIn c file) (firstRuns (viewedFlow file v))) where
+  pub first-found : {b : BreachAt} → q ≡ found.Breach b → q ≡ foundRuns (storyIn c file) (flowRuns (viewedFlow file v))
+  first-found g = rw (flow-runs (viewedFlow file v)) (runs-found (storyIn c file) (firstRuns (viewedFlow file v)) (laterRuns (viewedFlow file v)) e g)
+
+  pub first-passed : q ≡ found.Clear → {r : Found} → r ≡ foundRuns (storyIn c file) (laterRuns (viewedFlow file v))
+      → r ≡ foundRuns (storyIn c file) (flowRuns (viewedFlow file v))
+  first-passed g k = rw (flow-runs (viewedFlow file v)) (runs-passed (storyIn c file) (firstRuns (viewedFlow file v)) (laterRuns (viewedFlow file v)) e g k)
+
+-- steps 7 to 19, one after the other
+module _ (file : List ℕ) (c : Sections) (v : FlowView) (ready : FlowReady file v) {q : Found} (e : q ≡ passesFound file c (knotView v) (passesFrom 0 5)) where
+  pub own-found : {b : BreachAt} → q ≡ found.Breach b → q ≡ foundRuns (storyIn c file) (laterRuns (viewedFlow file v))
+  own-found g =
+      let f = viewedFlow file v in
+      let body = over (knot f) (f .body) flowSteps in
+      let stitches = each (stitchRuns f) (f .stitches) in
+      runs-found (storyIn c file) (body ++ stitches) (over (knot f) (f .body) (s19 ∷ []))
+      (runs-found (storyIn c file) body stitches (flow-run file c v ready e) g) g
+
+  module _ (g : q ≡ found.Clear) {r : Found} (h : r ≡ foundRuns (storyIn c file) (each (stitchRuns (viewedFlow file v)) (viewedFlow file v .stitches))) where
+    own-passed : r ≡ foundRuns (storyIn c file) (over (knot (viewedFlow file v)) (viewedFlow file v .body) flowSteps ++ each (stitchRuns (viewedFlow file v)) (viewedFlow file v .stitches))
+    own-passed =
+        let f = viewedFlow file v in
+        runs-passed (storyIn c file) (over (knot f) (f .body) flowSteps) (each (stitchRuns f) (f .stitches)) (flow-run file c v ready e) g h
+
+    pub stitches-found : {b : BreachAt} → r ≡ found.Breach b → r ≡ foundRuns (storyIn c file) (laterRuns (viewedFlow file v))
+    stitches-found k =
+        let f = viewedFlow file v in
+        runs-found (storyIn c file) (over (knot f) (f .body) flowSteps ++ each (stitchRuns f) (f .stitches)) (over (knot f) (f .body) (s19 ∷ [])) own-passed k
+
+    pub stitches-passed : r ≡ found.Clear → {t : Found} → t ≡ passesFound file c (knotView v) (passesFrom 5 1)
+        → t ≡ foundRuns (storyIn c file) (laterRuns (viewedFlow file v))
+    stitches-passed k l =
+        let f = viewedFlow file v in
+        let gathered = flow-gathers file c v ready l in
+        runs-passed (storyIn c file) (over (knot f) (f .body) flowSteps ++ each (stitchRuns f) (f .stitches)) (over (knot f) (f .body) (s19 ∷ [])) own-passed k gathered
+
 -- where the body is clear of its own steps, what is left is what the stitches have
-module _ (file : List ℕ) (c : Sections) (v : FlowView) (ready : FlowReady file v) (e : true ≡ passesClear file c (knotView v) (passesFrom 0 6)) where
+module _ (file : List ℕ) (c : Sections) (v : FlowView) (ready : FlowReady file v) {b : Bool} (e : b ≡ passesClear file c (knotView v) (passesFrom 0 6)) (t : b ≡ true) where
   body-clear : found.Clear
       ≡ foundRuns (storyIn c file) (over (knot (viewedFlow file v)) (viewedFlow file v .body) flowSteps ++ over (knot (viewedFlow file v)) (viewedFlow file v .body) (s19 ∷ []))
   body-clear =
-      clear-passes (knownIn c file) (hereAt file (knotView v)) (v .name) (passesFrom 0 6) (viewedFlow file v .body) e
+      clear-passes (knownIn c file) (hereAt file (knotView v)) (v .name) (passesFrom 0 6) (viewedFlow file v .body) (sym t ∙ e)
       ∙ rw (← knot-here file c v ready) (body-passes (storyIn c file) (knot (viewedFlow file v)) (viewedFlow file v .body))
 
   pub stitches-left : {r : Found} → r ≡ foundRuns (storyIn c file) (each (stitchRuns (viewedFlow file v)) (viewedFlow file v .stitches))

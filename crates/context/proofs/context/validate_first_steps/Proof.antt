@@ -1,7 +1,7 @@
 -- `validate_first_steps`: step 5, then step 6, which leaves the batch. Assumes nothing.
 use mathlib.Core.Path.{sym, _∙_}
 use Rattle.context.proofs.Verdict.{never-clear}
-use Rattle.context.proofs.Runs.{runs-found, runs-passed, params-run}
+use Rattle.context.proofs.Runs.{purity-found, purity-passed}
 use borrow.Author.Needs.{needs}
 use Rattle.context.proofs.context.validate_first_steps.Statement.{statement}
 use Rattle.context.proofs.context.validate_first_steps.Tie as tie
@@ -15,9 +15,11 @@ validate-function-purity-requires c κs =
 
 returns : tie.Need-returns
 returns c =
-    let purity = c .before .before .before .before .before .before .before .before .validate-function-purity .ensures in
+    let purity = c .before .before .before .before .before .before .before .before in
+    let start = purity .before .before .before .before .before .before .before .before .before .before .before .before .before in
     let told = c .enum-told .given .1 in
-    record { answer = runs-found _ _ _ (purity .answer) told; held = λ e. absurd (never-clear (sym told ∙ e)) }
+    let found = purity-found (start .args .file .now) (start .args .c) (start .args .v) (start .pre .1 .0) (purity .validate-function-purity .ensures .answer) told in
+    record { answer = found; held = λ e. absurd (never-clear (sym told ∙ e)) }
 
 validate-flow-parameter-names-requires : tie.Need-validate-flow-parameter-names-requires
 validate-flow-parameter-names-requires c κs =
@@ -28,11 +30,14 @@ validate-flow-parameter-names-requires c κs =
 returns-2 : tie.Need-returns-2
 returns-2 c =
     let purity = c .before .before .before .before .before .before .before .before .before in
-    let ready = purity .before .before .before .before .before .before .before .before .before .before .before .before .before .pre .1 .0 in
+    let start = purity .before .before .before .before .before .before .before .before .before .before .before .before .before in
     let found = purity .validate-function-purity .ensures in
     let none = c .before .enum-told2 .given .1 in
-    let params = params-run _ _ _ ready (c .validate-flow-parameter-names .ensures) in
-    record { answer = runs-passed _ _ _ (found .answer) none params; held = λ e. found .held none }
+    let params = c .validate-flow-parameter-names .ensures in
+    record {
+      answer = purity-passed (start .args .file .now) (start .args .c) (start .args .v) (start .pre .1 .0) (found .answer) none params;
+      held = λ e. found .held none;
+    }
 
 pub validate-first-steps-spec : {M : Type 1} → statement M
 validate-first-steps-spec =

@@ -1,6 +1,5 @@
 -- `validate_later_steps`: where the body is clear of its own steps, what is found is what the stitches have. Assumes nothing.
 use native.Mathlib.Omega.{arith}
-use mathlib.Core.Path.{sym, _∙_}
 use Rattle.context.proofs.Places.{knot-ready}
 use Rattle.context.proofs.Runs.{stitches-left}
 use borrow.Author.Needs.{needs}
@@ -26,9 +25,10 @@ returns c =
     let stitches = c .before .before .before .before .before .before in
     let look = stitches .before .before .before .before .before .before .before .before .before .before .before in
     let scope = look .before .before .before .before in
-    let ready = scope .before .before .before .before .before .before .before .before .before .pre .1 .0 in
+    let start = scope .before .before .before .before .before .before .before .before .before in
     let clear = rw (scope .knot-scope .ensures) at (look .is-clear .ensures .answer) in
-    stitches-left _ _ _ ready (sym (stitches .before .before .before .before .if1 .taken) ∙ clear) (stitches .validate-stitches .ensures)
+    let taken = stitches .before .before .before .before .if1 .taken in
+    stitches-left (start .args .file .now) (start .args .c) (start .args .v) (start .pre .1 .0) clear taken (stitches .validate-stitches .ensures)
 
 validate-unclear-flow-requires : tie.Need-validate-unclear-flow-requires
 validate-unclear-flow-requires c κs =

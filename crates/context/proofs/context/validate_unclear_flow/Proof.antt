@@ -1,7 +1,7 @@
 -- `validate_unclear_flow`: steps 7 to 11, the stitches, then step 19. Assumes nothing.
 use native.Mathlib.Omega.{arith}
 use Rattle.context.proofs.Places.{knot-ready}
-use Rattle.context.proofs.Runs.{runs-found, runs-passed, flow-run, flow-gathers}
+use Rattle.context.proofs.Runs.{own-found, stitches-found, stitches-passed}
 use borrow.Author.Needs.{needs}
 use Rattle.context.proofs.context.validate_unclear_flow.Statement.{statement}
 use Rattle.context.proofs.context.validate_unclear_flow.Tie as tie
@@ -17,10 +17,9 @@ returns : tie.Need-returns
 returns c =
     let own = c .before .before .before .before .before .before in
     let scope = own .before .before .before in
-    let ready = scope .before .before .before .before .before .before .before .before .before .pre .1 .0 in
-    let told = c .enum-told .given .1 in
-    let found = flow-run _ _ _ ready (rw (scope .knot-scope .ensures) at (own .find-in-passes .ensures .answer)) in
-    runs-found _ _ _ (runs-found _ _ _ found told) told
+    let start = scope .before .before .before .before .before .before .before .before .before in
+    let found = rw (scope .knot-scope .ensures) at (own .find-in-passes .ensures .answer) in
+    own-found (start .args .file .now) (start .args .c) (start .args .v) (start .pre .1 .0) found (c .enum-told .given .1)
 
 validate-stitches-requires : tie.Need-validate-stitches-requires
 validate-stitches-requires c κs =
@@ -36,10 +35,10 @@ returns-2 c =
     let clear = stitches .before .before .before .before in
     let own = clear .before .before .before .before .before .before in
     let scope = own .before .before .before in
-    let ready = scope .before .before .before .before .before .before .before .before .before .pre .1 .0 in
-    let found = flow-run _ _ _ ready (rw (scope .knot-scope .ensures) at (own .find-in-passes .ensures .answer)) in
-    let both = runs-passed _ _ _ found (clear .enum-told2 .given .1) (stitches .validate-stitches .ensures) in
-    runs-found _ _ _ both (c .enum-told3 .given .1)
+    let start = scope .before .before .before .before .before .before .before .before .before in
+    let found = rw (scope .knot-scope .ensures) at (own .find-in-passes .ensures .answer) in
+    stitches-found (start .args .file .now) (start .args .c) (start .args .v) (start .pre .1 .0) found (clear .enum-told2 .given .1)
+    (stitches .validate-stitches .ensures) (c .enum-told3 .given .1)
 
 validate-body-requires : tie.Need-validate-body-requires
 validate-body-requires c κs =
@@ -65,11 +64,12 @@ returns-3 c =
     let clear = stitches .before .before .before .before in
     let own = clear .before .before .before .before .before .before in
     let scope = own .before .before .before in
-    let ready = scope .before .before .before .before .before .before .before .before .before .pre .1 .0 in
+    let start = scope .before .before .before .before .before .before .before .before .before in
     let knot = scope .knot-scope .ensures in
-    let found = flow-run _ _ _ ready (rw knot at (own .find-in-passes .ensures .answer)) in
-    let both = runs-passed _ _ _ found (clear .enum-told2 .given .1) (stitches .validate-stitches .ensures) in
-    runs-passed _ _ _ both (passed .enum-told4 .given .1) (flow-gathers _ _ _ ready (rw knot at (body .validate-body .ensures)))
+    let found = rw knot at (own .find-in-passes .ensures .answer) in
+    let gathered = rw knot at (body .validate-body .ensures) in
+    stitches-passed (start .args .file .now) (start .args .c) (start .args .v) (start .pre .1 .0) found (clear .enum-told2 .given .1)
+    (stitches .validate-stitches .ensures) (passed .enum-told4 .given .1) gathered
 
 pub validate-unclear-flow-spec : {M : Type 1} → statement M
 validate-unclear-flow-spec =

@@ -3,7 +3,7 @@ use native.Mathlib.Omega.{arith}
 use Rattle.context.specs.Scopes.{knotView}
 use Rattle.context.proofs.Walks.{held-first}
 use Rattle.context.proofs.Places.{knot-ready}
-use Rattle.context.proofs.Runs.{runs-found, runs-passed, flow-runs}
+use Rattle.context.proofs.Runs.{first-found, first-passed}
 use borrow.Author.Needs.{needs}
 use Rattle.context.proofs.context.validate_whole_flow.Statement.{statement}
 use Rattle.context.proofs.context.validate_whole_flow.Tie as tie
@@ -22,7 +22,11 @@ validate-first-steps-requires c κs =
     (pre .0, (pre .1 .0, (held, (omega (arith, pre .1 .1, c .before .before .before .before .before .before .before .before .before .scratch .given), declared .put-declared .ensures))))
 
 returns : tie.Need-returns
-returns c = rw (flow-runs _) (runs-found _ _ _ (c .before .before .before .before .before .before .before .before .validate-first-steps .ensures .answer) (c .enum-told .given .1))
+returns c =
+    let first = c .before .before .before .before .before .before .before .before in
+    let declared = first .before .before .before .before .before .before .before .before .before .before .before .before .before in
+    let args = declared .before .before .before .before .before .before .before .before .before .before .before .args in
+    first-found (args .file .now) (args .c) (args .v) (first .validate-first-steps .ensures .answer) (c .enum-told .given .1)
 
 validate-later-steps-requires : tie.Need-validate-later-steps-requires
 validate-later-steps-requires c κs =
@@ -59,8 +63,11 @@ returns-2 : tie.Need-returns-2
 returns-2 c =
     let later = c .before .before .before .before .before .before in
     let clear = later .before .before .before .before .before in
-    let first = clear .before .before .before .before .before .before .before .before .validate-first-steps .ensures .answer in
-    rw (flow-runs _) (runs-passed _ _ _ first (clear .enum-told2 .given .1) (later .validate-later-steps .ensures))
+    let first = clear .before .before .before .before .before .before .before .before in
+    let declared = first .before .before .before .before .before .before .before .before .before .before .before .before .before in
+    let args = declared .before .before .before .before .before .before .before .before .before .before .before .args in
+    let found = first .validate-first-steps .ensures .answer in
+    first-passed (args .file .now) (args .c) (args .v) found (clear .enum-told2 .given .1) (later .validate-later-steps .ensures)
 
 pub validate-whole-flow-spec : {M : Type 1} → statement M
 validate-whole-flow-spec =

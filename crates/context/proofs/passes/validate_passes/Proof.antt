@@ -7,9 +7,10 @@ use Rattle.context.proofs.passes.validate_passes.Statement.{statement}
 use Rattle.context.proofs.passes.validate_passes.Tie as tie
 
 returns : tie.Need-returns
-returns c =
-    let look = c .before .before .before .before .before .before .before .is-clear .ensures in
-    record { answer = clear-passes _ _ _ _ _ (sym (c .if1 .taken) ∙ look .answer); held = λ e. look .held }
+returns c = record {
+  answer = clear-passes _ _ _ _ _ (sym (c .if1 .taken) ∙ c .before .before .before .before .before .before .before .is-clear .ensures .answer);
+  held = λ e. c .before .before .before .before .before .before .before .is-clear .ensures .held;
+}
 
 find-in-passes-requires : tie.Need-find-in-passes-requires
 find-in-passes-requires c κs =
