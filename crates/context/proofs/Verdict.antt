@@ -33,6 +33,11 @@ or-assoc (found.Breach b) g h = refl
 pub never-clear : {b : BreachAt} → found.Breach b ≡ found.Clear → ⊥
 never-clear e = let z : _≡_ {A = ℕ} 0 1 = cc in omega arith
 
+pub both-clear : (f g : Found) → found.Clear ≡ orElse f g → (f ≡ found.Clear) × (g ≡ found.Clear)
+unfolding orElse
+both-clear found.Clear g e = (refl, sym e)
+both-clear (found.Breach b) g e = absurd (never-clear (sym e))
+
 -- 2. The first of joined lists
 
 found-append : (xs ys : List Breach) → foundOf (first (xs ++ ys)) ≡ orElse (foundOf (first xs)) (foundOf (first ys))

@@ -65,7 +65,7 @@ rulesOf pass.Purity = bracket s5
 -- the passes of the root and of a flow, then those of a stitch, in the order of the steps
 abbrev pub passes : List Pass
 passes =
-    pass.Temps ∷ pass.Targets ∷ pass.Calls ∷ pass.Choices ∷ pass.VariableDiverts
+    pass.Temps ∷ pass.Targets ∷ pass.Calls ∷ pass.Choices ∷ pass.VariableDiverts ∷ pass.Gathers
     ∷ pass.Temps ∷ pass.Targets ∷ pass.Calls ∷ pass.VariableDiverts ∷ pass.Variables ∷ pass.Gathers ∷ []
 
 -- the pass of a number

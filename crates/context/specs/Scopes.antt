@@ -4,6 +4,7 @@ use mathlib.Core.Path.{_≡_}
 use mathlib.Core.Bool.{Bool, true, false}
 use mathlib.Core.List.{List, [], _∷_, _++_}
 use lib.ListN.{length}
+use Rattle.names.specs.Words.{each}
 use Rattle.names.specs.Counted.{nameAt}
 use Rattle.records.specs.Trace.{well, ends}
 use Rattle.story.specs.declared.Sections.{Sections}
@@ -17,7 +18,7 @@ use Rattle.bodies.specs.Bodies.{bodyIn, Range, Fetched}
 use Rattle.symbols.specs.Numbers.{absent}
 use Rattle.rules.specs.declared.Rule.{Rule}
 use Rattle.rules.specs.Rules.{Here, knot}
-use Rattle.rules.specs.Steps.{s5, s6, s12, bracket, flowSteps, Run, over, nameItem, paramItems, purityItems}
+use Rattle.rules.specs.Steps.{s5, s6, s12, s19, bracket, flowSteps, Run, over, nameItem, paramItems, purityItems, stitchRuns}
 use Rattle.checks.specs.declared.ScopeView.{ScopeView}
 use Rattle.checks.specs.Context.{knownIn, hereAt, StitchesReady}
 use Rattle.context.specs.declared.Found.{Found}
@@ -140,6 +141,14 @@ abbrev pub stitchNameFound : List ℕ → Sections → Here → ℕ → ℕ → 
 stitchNameFound file c h flow at =
     foundAlong (knownIn c file) h flow (bracket s12) [] (nameItem stitchName at (record { at = at; bytes = nameAt file at }) ∷ [])
 
--- steps 5 to 11
-abbrev pub flowStepsRuns : Flow → List Run
-flowStepsRuns f = over (knot f) (purityItems (f .function) f) (s5 ∷ []) ++ over (knot f) (paramItems (f .params)) (s6 ∷ []) ++ over (knot f) (f .body) flowSteps
+-- steps 5 and 6
+abbrev pub firstRuns : Flow → List Run
+firstRuns f = over (knot f) (purityItems (f .function) f) (s5 ∷ []) ++ over (knot f) (paramItems (f .params)) (s6 ∷ [])
+
+pub record FirstSteps (file : List ℕ) (c : Sections) (v : FlowView) (items : ℕ) (r : Found) (batch : List ℕ) : Type 0 where
+  pub answer : r ≡ foundRuns (storyIn c file) (firstRuns (viewedFlow file v))
+  pub held : r ≡ found.Clear → Held file (knotView v) items batch
+
+-- steps 7 to 19
+abbrev pub laterRuns : Flow → List Run
+laterRuns f = over (knot f) (f .body) flowSteps ++ each (stitchRuns f) (f .stitches) ++ over (knot f) (f .body) (s19 ∷ [])

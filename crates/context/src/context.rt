@@ -10,11 +10,13 @@ ghost use Rattle.rules.specs.Steps.{stitchRuns, flowRuns, verdict};
 ghost use Rattle.checks.specs.Context.{Ready, ScopeReady};
 ghost use Rattle.filters.specs.Names.{Declared};
 ghost use Rattle.context.specs.Found.{foundOf, foundRuns, passesFrom};
-ghost use Rattle.context.specs.Scopes.{FlowReady, StitchReady, FlowsReady, passesFound, flowStepsRuns};
+ghost use Rattle.context.specs.Scopes.{knotView, FlowReady, StitchReady, FlowsReady, Held, FirstSteps, passesFound, laterRuns};
 use crate::Found;
 use crate::passes::GATHERS;
 use crate::passes::INNER;
 use crate::passes::OUTER;
+use crate::passes::find_in_passes;
+use crate::passes::is_clear;
 use crate::passes::validate_passes;
 use crate::scopes::knot_scope;
 use crate::scopes::root_scope;
@@ -49,7 +51,7 @@ fn validate_body(
     batch: &mut [u32],
     scratch: &mut [u32],
 ) -> Found
-    requires { ⌜ first + many ≤ 12 ⌝ }
+    requires { ⌜ first + many ≤ 13 ⌝ }
     requires { ⌜ Ready (now file) c (now index) count (now functions) ⌝ }
     requires { ⌜ ScopeReady (now file) scope ⌝ }
     requires { ⌜ (2 ≤ length (now batch)) × (2 ≤ length (now scratch)) ⌝ }
@@ -75,8 +77,8 @@ fn validate_body(
     )
 }
 
-// Steps 5 to 11, of a flow.
-fn validate_flow(
+// Steps 5 and 6, of a flow whose body has so many items, the first ones in the batch.
+fn validate_first_steps(
     file: &[u8],
     c: Sections,
     index: &[u32],
@@ -84,6 +86,7 @@ fn validate_flow(
     functions: &[u32],
     hints: &[u32],
     v: FlowView,
+    items: usize,
     declared: &[u8],
     gathers: &mut [u8],
     batch: &mut [u32],
@@ -91,12 +94,12 @@ fn validate_flow(
 ) -> Found
     requires { ⌜ Ready (now file) c (now index) count (now functions) ⌝ }
     requires { ⌜ FlowReady (now file) v ⌝ }
-    requires { ⌜ (2 ≤ length (now batch)) × (2 ≤ length (now scratch)) ⌝ }
+    requires { ⌜ Held (now file) (knotView v) items (now batch) ⌝ }
+    requires { ⌜ 2 ≤ length (now scratch) ⌝ }
     requires { ⌜ Declared (now file) (v .params) (v .from) (v .stitches) (now declared) ⌝ }
-    ensures { λ r. ⌜ r ≡ foundRuns (storyIn c (now (file .entry))) (flowStepsRuns (viewedFlow (now (file .entry)) v)) ⌝ }
+    ensures { λ r. ⌜ FirstSteps (now (file .entry)) c v items r (now (batch .exit)) ⌝ }
 {
     let scope = knot_scope(v);
-    let items = count_items(file, v.from, v.to, batch);
     let purity = validate_function_purity(
         file,
         c,
@@ -115,26 +118,7 @@ fn validate_flow(
     if let Found::Breach(_) = purity {
         return purity;
     }
-    let params = validate_flow_parameter_names(file, c, functions, v.name, v.params);
-    if let Found::Breach(_) = params {
-        return params;
-    }
-    validate_passes(
-        OUTER,
-        5,
-        file,
-        c,
-        index,
-        count,
-        functions,
-        hints,
-        scope,
-        items,
-        declared,
-        gathers,
-        batch,
-        scratch,
-    )
+    validate_flow_parameter_names(file, c, functions, v.name, v.params)
 }
 
 // Steps 12 to 18, of a stitch.
@@ -228,8 +212,8 @@ fn validate_stitches(
     }
 }
 
-// Steps 5 to 19, of a flow and its stitches.
-fn validate_whole_flow(
+// Steps 7 to 19, of a flow whose body has so many items, one after the other.
+fn validate_unclear_flow(
     file: &[u8],
     c: Sections,
     index: &[u32],
@@ -237,27 +221,32 @@ fn validate_whole_flow(
     functions: &[u32],
     hints: &[u32],
     v: FlowView,
-    declared: &mut [u8],
+    items: usize,
+    declared: &[u8],
     gathers: &mut [u8],
     batch: &mut [u32],
     scratch: &mut [u32],
 ) -> Found
     requires { ⌜ Ready (now file) c (now index) count (now functions) ⌝ }
     requires { ⌜ FlowReady (now file) v ⌝ }
-    requires { ⌜ (2 ≤ length (now batch)) × (2 ≤ length (now scratch)) ⌝ }
-    ensures { λ r. ⌜ r ≡ foundRuns (storyIn c (now (file .entry))) (flowRuns (viewedFlow (now (file .entry)) v)) ⌝ }
+    requires { ⌜ Held (now file) (knotView v) items (now batch) ⌝ }
+    requires { ⌜ 2 ≤ length (now scratch) ⌝ }
+    requires { ⌜ Declared (now file) (v .params) (v .from) (v .stitches) (now declared) ⌝ }
+    ensures { λ r. ⌜ r ≡ foundRuns (storyIn c (now (file .entry))) (laterRuns (viewedFlow (now (file .entry)) v)) ⌝ }
 {
-    put_declared(file, v.params, v.from, v.stitches, declared, scratch);
-    let own = validate_flow(
+    let scope = knot_scope(v);
+    let own = find_in_passes(
+        OUTER,
+        5,
         file,
         c,
         index,
         count,
         functions,
         hints,
-        v,
+        scope,
+        items,
         declared,
-        gathers,
         batch,
         scratch,
     );
@@ -289,7 +278,129 @@ fn validate_whole_flow(
         count,
         functions,
         hints,
+        scope,
+        declared,
+        gathers,
+        batch,
+        scratch,
+    )
+}
+
+// Steps 7 to 19, of a flow and its stitches: where one look finds the body clear of its own steps, the stitches are left.
+fn validate_later_steps(
+    file: &[u8],
+    c: Sections,
+    index: &[u32],
+    count: usize,
+    functions: &[u32],
+    hints: &[u32],
+    v: FlowView,
+    items: usize,
+    declared: &[u8],
+    gathers: &mut [u8],
+    batch: &mut [u32],
+    scratch: &mut [u32],
+) -> Found
+    requires { ⌜ Ready (now file) c (now index) count (now functions) ⌝ }
+    requires { ⌜ FlowReady (now file) v ⌝ }
+    requires { ⌜ Held (now file) (knotView v) items (now batch) ⌝ }
+    requires { ⌜ 2 ≤ length (now scratch) ⌝ }
+    requires { ⌜ Declared (now file) (v .params) (v .from) (v .stitches) (now declared) ⌝ }
+    ensures { λ r. ⌜ r ≡ foundRuns (storyIn c (now (file .entry))) (laterRuns (viewedFlow (now (file .entry)) v)) ⌝ }
+{
+    if is_clear(
+        OUTER,
+        GATHERS + 1,
+        file,
+        c,
+        index,
+        count,
+        functions,
+        hints,
         knot_scope(v),
+        items,
+        declared,
+        gathers,
+        batch,
+        scratch,
+    ) {
+        return validate_stitches(
+            file,
+            c,
+            index,
+            count,
+            functions,
+            hints,
+            v,
+            declared,
+            gathers,
+            batch,
+            scratch,
+        );
+    }
+    validate_unclear_flow(
+        file,
+        c,
+        index,
+        count,
+        functions,
+        hints,
+        v,
+        items,
+        declared,
+        gathers,
+        batch,
+        scratch,
+    )
+}
+
+// Steps 5 to 19, of a flow and its stitches.
+fn validate_whole_flow(
+    file: &[u8],
+    c: Sections,
+    index: &[u32],
+    count: usize,
+    functions: &[u32],
+    hints: &[u32],
+    v: FlowView,
+    declared: &mut [u8],
+    gathers: &mut [u8],
+    batch: &mut [u32],
+    scratch: &mut [u32],
+) -> Found
+    requires { ⌜ Ready (now file) c (now index) count (now functions) ⌝ }
+    requires { ⌜ FlowReady (now file) v ⌝ }
+    requires { ⌜ (2 ≤ length (now batch)) × (2 ≤ length (now scratch)) ⌝ }
+    ensures { λ r. ⌜ r ≡ foundRuns (storyIn c (now (file .entry))) (flowRuns (viewedFlow (now (file .entry)) v)) ⌝ }
+{
+    put_declared(file, v.params, v.from, v.stitches, declared, scratch);
+    let items = count_items(file, v.from, v.to, batch);
+    let first = validate_first_steps(
+        file,
+        c,
+        index,
+        count,
+        functions,
+        hints,
+        v,
+        items,
+        declared,
+        gathers,
+        batch,
+        scratch,
+    );
+    if let Found::Breach(_) = first {
+        return first;
+    }
+    validate_later_steps(
+        file,
+        c,
+        index,
+        count,
+        functions,
+        hints,
+        v,
+        items,
         declared,
         gathers,
         batch,

@@ -45,14 +45,14 @@ use filters::gathers::pass_item;
 use filters::words::clear_filter;
 use story::Sections;
 
-// The numbers of passes: those of the root and of a flow from 0 on, those of a stitch from 5 on, in the order of the steps.
+// The numbers of passes: those of the root and of a flow from 0 on, those of a stitch from 6 on, in the order of the steps.
 pub const OUTER: u8 = 0;
 
-pub const INNER: u8 = 5;
+pub const GATHERS: u8 = 5;
 
-pub const GATHERS: u8 = 10;
+pub const INNER: u8 = 6;
 
-pub const PURITY: u8 = 11;
+pub const PURITY: u8 = 12;
 
 // The pass of a number.
 fn pass_at(number: u8) -> Pass
@@ -64,13 +64,14 @@ fn pass_at(number: u8) -> Pass
         2 => Pass::Calls,
         3 => Pass::Choices,
         4 => Pass::VariableDiverts,
-        5 => Pass::Temps,
-        6 => Pass::Targets,
-        7 => Pass::Calls,
-        8 => Pass::VariableDiverts,
-        9 => Pass::Variables,
-        10 => Pass::Gathers,
-        11..=255 => Pass::Purity,
+        5 => Pass::Gathers,
+        6 => Pass::Temps,
+        7 => Pass::Targets,
+        8 => Pass::Calls,
+        9 => Pass::VariableDiverts,
+        10 => Pass::Variables,
+        11 => Pass::Gathers,
+        12..=255 => Pass::Purity,
     }
 }
 
@@ -266,7 +267,7 @@ fn is_item_clear(
     gathers: &[u8],
     scratch: &mut [u32],
 ) -> bool
-    requires { ⌜ first + many ≤ 12 ⌝ }
+    requires { ⌜ first + many ≤ 13 ⌝ }
     requires { ⌜ Ready (now file) c (now index) count (now functions) ⌝ }
     requires { ⌜ ScopeReady (now file) scope ⌝ }
     requires { ⌜ 2 ≤ length (now scratch) ⌝ }
@@ -321,7 +322,7 @@ fn is_body_clear(
     batch: &mut [u32],
     scratch: &mut [u32],
 ) -> bool
-    requires { ⌜ first + many ≤ 12 ⌝ }
+    requires { ⌜ first + many ≤ 13 ⌝ }
     requires { ⌜ Ready (now file) c (now index) count (now functions) ⌝ }
     requires { ⌜ ScopeReady (now file) scope ⌝ }
     requires { ⌜ Held (now file) scope items (now batch) ⌝ }
@@ -371,7 +372,7 @@ fn is_body_clear(
 }
 
 // The first breach of so many passes from the first on, one pass after the other along the same body.
-fn find_in_passes(
+pub fn find_in_passes(
     first: u8,
     many: u8,
     file: &[u8],
@@ -386,7 +387,7 @@ fn find_in_passes(
     batch: &mut [u32],
     scratch: &mut [u32],
 ) -> Found
-    requires { ⌜ first + many ≤ 12 ⌝ }
+    requires { ⌜ first + many ≤ 13 ⌝ }
     requires { ⌜ Ready (now file) c (now index) count (now functions) ⌝ }
     requires { ⌜ ScopeReady (now file) scope ⌝ }
     requires { ⌜ Held (now file) scope items (now batch) ⌝ }
@@ -432,6 +433,50 @@ fn filter_room(scope: ScopeView, bytes: usize) -> usize
     bytes
 }
 
+// No item of the body breaks a rule of so many passes from the first on, as one look at each item finds.
+pub fn is_clear(
+    first: u8,
+    many: u8,
+    file: &[u8],
+    c: Sections,
+    index: &[u32],
+    count: usize,
+    functions: &[u32],
+    hints: &[u32],
+    scope: ScopeView,
+    items: usize,
+    declared: &[u8],
+    gathers: &mut [u8],
+    batch: &mut [u32],
+    scratch: &mut [u32],
+) -> bool
+    requires { ⌜ first + many ≤ 13 ⌝ }
+    requires { ⌜ Ready (now file) c (now index) count (now functions) ⌝ }
+    requires { ⌜ ScopeReady (now file) scope ⌝ }
+    requires { ⌜ Held (now file) scope items (now batch) ⌝ }
+    requires { ⌜ 2 ≤ length (now scratch) ⌝ }
+    requires { ⌜ Declared (now file) (scope .outer) (scope .body) (scope .stitches) (now declared) ⌝ }
+    ensures { λ r. ⌜ Cleared (now (file .entry)) c scope (passesFrom first many) items r (now (batch .exit)) ⌝ }
+{
+    let room = filter_room(scope, gathers.len());
+    is_body_clear(
+        first,
+        many,
+        file,
+        c,
+        index,
+        count,
+        functions,
+        hints,
+        scope,
+        items,
+        declared,
+        &mut gathers[..room],
+        batch,
+        scratch,
+    )
+}
+
 // The first breach of so many passes from the first on, along the same body; none where one look at each item finds none.
 pub fn validate_passes(
     first: u8,
@@ -449,7 +494,7 @@ pub fn validate_passes(
     batch: &mut [u32],
     scratch: &mut [u32],
 ) -> Found
-    requires { ⌜ first + many ≤ 12 ⌝ }
+    requires { ⌜ first + many ≤ 13 ⌝ }
     requires { ⌜ Ready (now file) c (now index) count (now functions) ⌝ }
     requires { ⌜ ScopeReady (now file) scope ⌝ }
     requires { ⌜ Held (now file) scope items (now batch) ⌝ }
@@ -457,8 +502,7 @@ pub fn validate_passes(
     requires { ⌜ Declared (now file) (scope .outer) (scope .body) (scope .stitches) (now declared) ⌝ }
     ensures { λ r. ⌜ Passed (now (file .entry)) c scope (passesFrom first many) items r (now (batch .exit)) ⌝ }
 {
-    let room = filter_room(scope, gathers.len());
-    if is_body_clear(
+    if is_clear(
         first,
         many,
         file,
@@ -470,7 +514,7 @@ pub fn validate_passes(
         scope,
         items,
         declared,
-        &mut gathers[..room],
+        gathers,
         batch,
         scratch,
     ) {

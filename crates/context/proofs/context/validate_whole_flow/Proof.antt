@@ -1,62 +1,81 @@
--- `validate_whole_flow`: steps 5 to 11, the stitches, then step 19. Assumes nothing.
+-- `validate_whole_flow`: steps 5 and 6, then 7 to 19. Assumes nothing.
 use native.Mathlib.Omega.{arith}
+use Rattle.context.specs.Scopes.{knotView}
+use Rattle.context.proofs.Walks.{held-first}
 use Rattle.context.proofs.Places.{knot-ready}
-use Rattle.context.proofs.Runs.{runs-found, runs-passed, flow-gathers, flow-runs}
+use Rattle.context.proofs.Runs.{first-found, first-passed}
 use borrow.Author.Needs.{needs}
 use Rattle.context.proofs.context.validate_whole_flow.Statement.{statement}
 use Rattle.context.proofs.context.validate_whole_flow.Tie as tie
 
-returns : tie.Need-returns
-returns c = rw (flow-runs _) (runs-found _ _ _ (runs-found _ _ _ (c .before .before .before .before .before .before .before .before .validate-flow .ensures) (c .enum-told .given .1)) (c .enum-told .given .1))
-
-validate-stitches-requires : tie.Need-validate-stitches-requires
-validate-stitches-requires c κs = (c .before .before .before .before .before .before .before .before .before .before .before .before .before .before .before .before .before .before .before .before .before .before .before .before .before .before .before .before .before .before .before .before .pre .0, (c .before .before .before .before .before .before .before .before .before .before .before .before .before .before .before .before .before .before .before .before .before .before .before .before .before .before .before .before .before .before .before .before .pre .1 .0, (omega (arith, c .before .before .before .before .before .before .before .before .before .before .before .before .before .before .before .before .before .before .before .before .before .before .before .before .before .before .before .before .before .before .before .before .pre .1 .1, c .before .before .before .before .before .before .before .before .before .before .before .before .before .before .before .before .before .before .scratch .given, c .before .before .before .before .before .before .before .scratch2 .given, c .before .before .before .before .before .before .before .before .before .batch .given), c .before .before .before .before .before .before .before .before .before .before .before .before .before .before .before .before .before .before .before .before .before .put-declared .ensures)))
-
-returns-2 : tie.Need-returns-2
-returns-2 c = rw (flow-runs _) (runs-found _ _ _ (runs-passed _ _ _ (c .before .before .before .before .before .before .before .before .before .before .before .before .before .before .before .before .before .before .before .before .before .validate-flow .ensures) (c .before .before .before .before .before .before .before .before .before .before .before .before .before .enum-told2 .given .1) (c .before .before .before .before .before .before .before .before .validate-stitches .ensures)) (c .enum-told3 .given .1))
-
-validate-body-requires : tie.Need-validate-body-requires
-validate-body-requires c κs = (omega arith, (c .before .before .before .before .before .before .before .before .before .before .before .before .before .before .before .before .before .before .before .before .before .before .before .before .before .before .before .before .before .before .before .before .before .before .before .before .before .before .before .before .before .before .before .before .before .before .pre .0, (rw (c .before .before .before .before .knot-scope .ensures) (knot-ready _ _ (c .before .before .before .before .before .before .before .before .before .before .before .before .before .before .before .before .before .before .before .before .before .before .before .before .before .before .before .before .before .before .before .before .before .before .before .before .before .before .before .before .before .before .before .before .before .before .pre .1 .0)), (omega (arith, c .before .before .before .before .before .before .before .before .before .before .before .before .before .before .before .before .before .before .before .before .before .before .before .before .before .before .before .before .before .before .before .before .before .before .before .before .before .before .before .before .before .before .before .before .before .before .pre .1 .1, c .before .before .before .before .before .before .before .before .before .before .before .before .before .before .before .before .before .before .before .before .before .before .before .before .before .before .before .before .before .before .before .before .scratch .given, c .before .before .before .before .before .before .before .before .before .before .before .before .before .before .before .before .before .before .before .before .before .scratch2 .given, c .before .before .before .before .before .before .before .before .scratch3 .given, c .before .before .before .before .before .before .before .before .before .before .before .before .before .before .before .before .before .before .before .before .before .before .before .batch .given, c .before .before .before .before .before .before .before .before .before .before .batch2 .given), rw (c .before .before .before .before .knot-scope .ensures) (c .before .before .before .before .before .before .before .before .before .before .before .before .before .before .before .before .before .before .before .before .before .before .before .before .before .before .before .before .before .before .before .before .before .before .before .put-declared .ensures)))))
-
-returns-3 : tie.Need-returns-3
-returns-3 c = rw (flow-runs _) (runs-passed _ _ _ (runs-passed _ _ _ (c .before .before .before .before .before .before .before .before .before .before .before .before .before .before .before .before .before .before .before .before .before .before .before .before .before .before .before .before .before .before .before .before .before .validate-flow .ensures) (c .before .before .before .before .before .before .before .before .before .before .before .before .before .before .before .before .before .before .before .before .before .before .before .before .before .enum-told2 .given .1) (c .before .before .before .before .before .before .before .before .before .before .before .before .before .before .before .before .before .before .before .before .validate-stitches .ensures)) (c .before .before .before .before .before .before .before .before .before .before .before .before .enum-told4 .given .1) (flow-gathers _ _ _ (c .before .before .before .before .before .before .before .before .before .before .before .before .before .before .before .before .before .before .before .before .before .before .before .before .before .before .before .before .before .before .before .before .before .before .before .before .before .before .before .before .before .before .before .before .before .before .before .before .before .before .before .before .before .pre .1 .0) (rw (c .before .before .before .before .before .before .before .before .before .before .before .knot-scope .ensures) at (c .before .before .before .before .before .before .validate-body .ensures))))
-
 put-declared-requires : tie.Need-put-declared-requires
-put-declared-requires c κs = (omega (arith, c .before .before .before .before .before .before .before .before .before .before .pre .1 .0 .params), (knot-ready _ _ (c .before .before .before .before .before .before .before .before .before .before .pre .1 .0) .knot, c .before .before .before .before .before .before .before .before .before .before .pre .1 .1 .1))
+put-declared-requires c κs =
+    let pre = c .before .before .before .before .before .before .before .before .before .before .pre in
+    (omega (arith, pre .1 .0 .params), (knot-ready _ _ (pre .1 .0) .knot, pre .1 .1 .1))
 
-validate-flow-requires : tie.Need-validate-flow-requires
-validate-flow-requires c κs = (c .before .before .before .before .before .before .before .before .before .before .before .before .before .before .before .before .before .before .before .pre .0, (c .before .before .before .before .before .before .before .before .before .before .before .before .before .before .before .before .before .before .before .pre .1 .0, (omega (arith, c .before .before .before .before .before .before .before .before .before .before .before .before .before .before .before .before .before .before .before .pre .1 .1, c .before .before .before .before .before .scratch .given), c .before .before .before .before .before .before .before .before .put-declared .ensures)))
+validate-first-steps-requires : tie.Need-validate-first-steps-requires
+validate-first-steps-requires c κs =
+    let declared = c .before .before .before .before .before .before .before .before .before .before .before .before in
+    let start = declared .before .before .before .before .before .before .before .before .before .before .before in
+    let pre = start .pre in
+    let held = held-first (knotView (start .args .v)) (c .before .before .before .before .before .before .count-items .ensures) (pre .1 .1 .0) in
+    (pre .0, (pre .1 .0, (held, (omega (arith, pre .1 .1, c .before .before .before .before .before .before .before .before .before .scratch .given), declared .put-declared .ensures))))
 
-same-length-9 : tie.Need-same-length-9
-same-length-9 c = omega (arith, c .before .before .before .before .before .before .before .before .before .before .before .before .before .before .before .before .before .before .before .before .before .before .before .before .before .before .before .before .before .before .before .before .before .before .before .before .before .before .before .before .before .declared .given)
+returns : tie.Need-returns
+returns c =
+    let first = c .before .before .before .before .before .before .before .before in
+    let declared = first .before .before .before .before .before .before .before .before .before .before .before .before .before in
+    let args = declared .before .before .before .before .before .before .before .before .before .before .before .args in
+    first-found (args .file .now) (args .c) (args .v) (first .validate-first-steps .ensures .answer) (c .enum-told .given .1)
 
-same-length-10 : tie.Need-same-length-10
-same-length-10 c = omega (arith, c .before .before .before .before .before .before .before .before .before .before .before .before .before .before .before .before .before .before .before .before .before .before .before .before .before .before .before .before .before .before .before .before .gathers .given, c .before .before .before .before .before .before .before .before .before .before .before .before .before .before .before .before .before .before .before .gathers2 .given, c .before .before .before .before .before .gathers3 .given)
-
-same-length-11 : tie.Need-same-length-11
-same-length-11 c = omega (arith, c .before .before .before .before .before .before .before .before .before .before .before .before .before .before .before .before .before .before .before .before .before .before .before .before .before .before .before .before .before .before .batch .given, c .before .before .before .before .before .before .before .before .before .before .before .before .before .before .before .before .before .batch2 .given, c .before .before .before .batch3 .given)
-
-same-length-12 : tie.Need-same-length-12
-same-length-12 c = omega (arith, c .before .before .before .before .before .before .before .before .before .before .before .before .before .before .before .before .before .before .before .before .before .before .before .before .before .before .before .before .before .before .before .before .before .before .before .before .before .before .before .scratch .given, c .before .before .before .before .before .before .before .before .before .before .before .before .before .before .before .before .before .before .before .before .before .before .before .before .before .before .before .before .scratch2 .given, c .before .before .before .before .before .before .before .before .before .before .before .before .before .before .before .scratch3 .given, c .before .scratch4 .given)
+validate-later-steps-requires : tie.Need-validate-later-steps-requires
+validate-later-steps-requires c κs =
+    let first = c .before .before .before .before .before .before .before .before .before .before .before .before in
+    let scratch = first .before .before .before .before .before .before .before .before .before .before in
+    let declared = scratch .before .before .before in
+    let pre = declared .before .before .before .before .before .before .before .before .before .before .before .pre in
+    let held = first .validate-first-steps .ensures .held (c .before .before .before .before .enum-told2 .given .1) in
+    let room = scratch .scratch .given in
+    (pre .0, (pre .1 .0, (held, (omega (arith, pre .1 .1, room, c .before .before .before .before .before .before .before .scratch2 .given), declared .put-declared .ensures))))
 
 same-length-5 : tie.Need-same-length-5
-same-length-5 c = omega (arith, c .before .before .before .before .before .before .before .before .before .before .before .before .before .before .before .before .before .before .before .before .before .before .before .before .before .before .before .before .before .declared .given)
+same-length-5 c =
+    let first = c .before .before .before .before .before .before .before .before .before .before .before .before .before .before .before .before .before .before .before in
+    omega (arith, first .before .before .before .before .before .before .before .before .before .before .before .before .declared .given)
 
 same-length-6 : tie.Need-same-length-6
-same-length-6 c = omega (arith, c .before .before .before .before .before .before .before .before .before .before .before .before .before .before .before .before .before .before .before .before .gathers .given, c .before .before .before .before .before .before .before .gathers2 .given)
+same-length-6 c =
+    let later = c .before .before .before .before .before in
+    omega (arith, later .before .before .before .before .before .before .before .before .before .before .before .before .before .gathers .given, later .gathers2 .given)
 
 same-length-7 : tie.Need-same-length-7
-same-length-7 c = omega (arith, c .before .before .before .before .before .before .before .before .before .before .before .before .before .before .before .before .before .before .batch .given, c .before .before .before .before .before .batch2 .given)
+same-length-7 c =
+    let first = c .before .before .before .before .before .before .before .before .before .before .before .before .before .before .before .before in
+    omega (arith, first .before .before .before .before .before .before .before .before .before .batch .given, first .batch2 .given, c .before .before .before .batch3 .given)
 
 same-length-8 : tie.Need-same-length-8
-same-length-8 c = omega (arith, c .before .before .before .before .before .before .before .before .before .before .before .before .before .before .before .before .before .before .before .before .before .before .before .before .before .before .before .scratch .given, c .before .before .before .before .before .before .before .before .before .before .before .before .before .before .before .before .scratch2 .given, c .before .before .before .scratch3 .given)
+same-length-8 c =
+    let first = c .before .before .before .before .before .before .before .before .before .before .before .before .before .before in
+    let scratch = first .before .before .before .before .before .before .before .before .before .before .before .before .before .before .before .scratch .given in
+    omega (arith, scratch, first .scratch2 .given, c .before .scratch3 .given)
+
+returns-2 : tie.Need-returns-2
+returns-2 c =
+    let later = c .before .before .before .before .before .before in
+    let clear = later .before .before .before .before .before in
+    let first = clear .before .before .before .before .before .before .before .before in
+    let declared = first .before .before .before .before .before .before .before .before .before .before .before .before .before in
+    let args = declared .before .before .before .before .before .before .before .before .before .before .before .args in
+    let found = first .validate-first-steps .ensures .answer in
+    first-passed (args .file .now) (args .c) (args .v) found (clear .enum-told2 .given .1) (later .validate-later-steps .ensures)
 
 pub validate-whole-flow-spec : {M : Type 1} → statement M
 validate-whole-flow-spec =
     tie.close
     (tie.spec
     put-declared-requires
-    validate-flow-requires
+    (λ c κs. search needs)
+    validate-first-steps-requires
     (λ c. search needs)
     (λ c. search needs)
     (λ c. search needs)
@@ -64,18 +83,9 @@ validate-whole-flow-spec =
     (λ c. search needs)
     returns
     (λ c. search needs)
-    validate-stitches-requires
-    (λ c. search needs)
+    validate-later-steps-requires
     same-length-5
     same-length-6
     same-length-7
     same-length-8
-    returns-2
-    (λ c. search needs)
-    (λ c κs. search needs)
-    validate-body-requires
-    same-length-9
-    same-length-10
-    same-length-11
-    same-length-12
-    returns-3)
+    returns-2)

@@ -11,7 +11,7 @@ use Rattle.context.proofs.passes.find_in_passes.Statement.{statement}
 use Rattle.context.proofs.passes.find_in_passes.Tie as tie
 
 abbrev Inv-loop : tie.InvT-loop
-Inv-loop first many file c index count functions hints scope items declared batch₀ scratch₀ pass₀ left₀ batch scratch pass left = ((pass + left ≤ 12) × (length batch ≡ length batch₀) × (length scratch ≡ length scratch₀)) × Held file scope items batch × Quiet file c scope first many pass left
+Inv-loop first many file c index count functions hints scope items declared batch₀ scratch₀ pass₀ left₀ batch scratch pass left = ((pass + left ≤ 13) × (length batch ≡ length batch₀) × (length scratch ≡ length scratch₀)) × Held file scope items batch × Quiet file c scope first many pass left
 
 abbrev μ-loop : tie.MeasureT-loop
 μ-loop first many file c index count functions hints scope items declared batch₀ scratch₀ pass₀ left₀ batch scratch pass left = left

@@ -12,7 +12,7 @@ use Rattle.context.proofs.passes.is_item_clear.Statement.{statement}
 use Rattle.context.proofs.passes.is_item_clear.Tie as tie
 
 abbrev Inv-loop : tie.InvT-loop
-Inv-loop first many file c index count functions hints scope slot declared gathers scratch₀ pass₀ left₀ scratch pass left = ((pass + left ≤ 12) × (length scratch ≡ length scratch₀)) × Passing (knownIn c file) (hereAt file scope) (take (slot .number) (whats (bodyIn file (scope .from) (scope .to)))) (whatAt file slot) first many pass left
+Inv-loop first many file c index count functions hints scope slot declared gathers scratch₀ pass₀ left₀ scratch pass left = ((pass + left ≤ 13) × (length scratch ≡ length scratch₀)) × Passing (knownIn c file) (hereAt file scope) (take (slot .number) (whats (bodyIn file (scope .from) (scope .to)))) (whatAt file slot) first many pass left
 
 abbrev μ-loop : tie.MeasureT-loop
 μ-loop first many file c index count functions hints scope slot declared gathers scratch₀ pass₀ left₀ scratch pass left = left

@@ -1,6 +1,6 @@
 -- `pass_at`: each arm is an entry of the table, and past its end stands the last pass. Assumes nothing.
 use mathlib.Core.Path.{sym}
-use Prim.Native.Nat.{zero-le}
+use Prim.Native.Nat.{zero-le, _≤_}
 use lib.ListN.{List·getD-eq-default}
 use Rattle.fields.proofs.Laws.{past}
 use Rattle.context.specs.declared.Pass.the-variants.{Purity}
@@ -54,9 +54,18 @@ returns-11 c = rw (c .match .keys11)
 
 returns-12 : tie.Need-returns-12
 unfolding passAt
-returns-12 c = let r = c .match .rest in sym (List·getD-eq-default passes Purity {n = c .before .args .number} (past (past (past (past (past (past (past (past (past (past (past zero-le (r .0 .0 .0 .0 .0 .0 .0 .0 .0 .0 .1)) (r .0 .0 .0 .0 .0 .0 .0 .0 .0 .1)) (r .0 .0 .0 .0 .0 .0 .0 .0 .1)) (r .0 .0 .0 .0 .0 .0 .0 .1)) (r .0 .0 .0 .0 .0 .0 .1)) (r .0 .0 .0 .0 .0 .1)) (r .0 .0 .0 .0 .1)) (r .0 .0 .0 .1)) (r .0 .0 .1)) (r .0 .1)) (r .1)))
+returns-12 c = rw (c .match .keys12)
+
+returns-13 : tie.Need-returns-13
+unfolding passAt
+returns-13 c =
+    let r = c .match .rest in
+    let n = c .before .args .number in
+    let three : 3 ≤ n = past (past (past zero-le (r .0 .0 .0 .0 .0 .0 .0 .0 .0 .0 .0 .1)) (r .0 .0 .0 .0 .0 .0 .0 .0 .0 .0 .1)) (r .0 .0 .0 .0 .0 .0 .0 .0 .0 .1) in
+    let six : 6 ≤ n = past (past (past three (r .0 .0 .0 .0 .0 .0 .0 .0 .1)) (r .0 .0 .0 .0 .0 .0 .0 .1)) (r .0 .0 .0 .0 .0 .0 .1) in
+    sym (List·getD-eq-default passes Purity {n = n} (past (past (past (past (past (past six (r .0 .0 .0 .0 .0 .1)) (r .0 .0 .0 .0 .1)) (r .0 .0 .0 .1)) (r .0 .0 .1)) (r .0 .1)) (r .1)))
 
 pub pass-at-spec : {M : Type 1} → statement M
 pass-at-spec =
     tie.close
-    (tie.spec returns returns-2 returns-3 returns-4 returns-5 returns-6 returns-7 returns-8 returns-9 returns-10 returns-11 returns-12)
+    (tie.spec returns returns-2 returns-3 returns-4 returns-5 returns-6 returns-7 returns-8 returns-9 returns-10 returns-11 returns-12 returns-13)
