@@ -22,7 +22,7 @@ returns-3 : tie.Need-returns-3
 returns-3 c = rw (flow-runs _) (runs-passed _ _ _ (runs-passed _ _ _ (c .before .before .before .before .before .before .before .before .before .before .before .before .before .before .before .before .before .before .before .before .before .before .before .before .before .before .before .before .before .before .before .before .before .validate-flow .ensures) (c .before .before .before .before .before .before .before .before .before .before .before .before .before .before .before .before .before .before .before .before .before .before .before .before .before .enum-told2 .given .1) (c .before .before .before .before .before .before .before .before .before .before .before .before .before .before .before .before .before .before .before .before .validate-stitches .ensures)) (c .before .before .before .before .before .before .before .before .before .before .before .before .enum-told4 .given .1) (flow-gathers _ _ _ (c .before .before .before .before .before .before .before .before .before .before .before .before .before .before .before .before .before .before .before .before .before .before .before .before .before .before .before .before .before .before .before .before .before .before .before .before .before .before .before .before .before .before .before .before .before .before .before .before .before .before .before .before .before .pre .1 .0) (rw (c .before .before .before .before .before .before .before .before .before .before .before .knot-scope .ensures) at (c .before .before .before .before .before .before .validate-body .ensures))))
 
 put-declared-requires : tie.Need-put-declared-requires
-put-declared-requires c κs = (omega (arith, c .before .before .before .before .before .before .before .before .before .before .pre .1 .0 .params), (knot-ready _ _ (c .before .before .before .before .before .before .before .before .before .before .pre .1 .0) .knot, c .before .before .before .before .before .before .before .before .before .before .pre .1 .1 .1))
+put-declared-requires c κs = (omega (arith, c .before .before .before .before .before .before .before .before .before .before .pre .1 .0 .params), (knot-ready _ _ (c .before .before .before .before .before .before .before .before .before .before .pre .1 .0) .knot, (c .before .before .before .before .before .before .before .before .before .before .pre .1 .0 .stitches, c .before .before .before .before .before .before .before .before .before .before .pre .1 .1 .1)))
 
 validate-flow-requires : tie.Need-validate-flow-requires
 validate-flow-requires c κs = (c .before .before .before .before .before .before .before .before .before .before .before .before .before .before .before .before .before .before .before .pre .0, (c .before .before .before .before .before .before .before .before .before .before .before .before .before .before .before .before .before .before .before .pre .1 .0, (omega (arith, c .before .before .before .before .before .before .before .before .before .before .before .before .before .before .before .before .before .before .before .pre .1 .1, c .before .before .before .before .before .scratch .given), c .before .before .before .before .before .before .before .before .put-declared .ensures)))
