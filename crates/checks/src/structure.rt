@@ -1,26 +1,20 @@
-// Temps, choices, functions, parameters and stitch names: rules 4 to 7 and 11 to 14 (structure.rs).
+// Choices, functions, parameters and stitch names: rules 4, 5 and 11 to 14 (structure.rs).
 ghost use mathlib.Core.Path.{_≡_};
 ghost use mathlib.Core.List.{List};
-ghost use Prim.Native.Nat.{_≤_};
-ghost use lib.ListN.{length};
 ghost use lib.Dec.{eqb};
 ghost use Rattle.story.specs.Story.{What, code};
 ghost use Rattle.story.specs.File.{InOrder};
 ghost use Rattle.rules.specs.Rules.{Known, Here, target};
-ghost use Rattle.rules.specs.Steps.{bracket, Step, temps, choices};
+ghost use Rattle.rules.specs.Steps.{bracket, Step, choices};
 ghost use Rattle.tables.specs.Functions.{Functions};
-ghost use Rattle.checks.specs.Judged.{judgedBy, tempJudged, paramJudged, stitchJudged};
-ghost use Rattle.checks.specs.Context.{ScopeReady, Sorted, knownIn, hereAt, whatAt};
+ghost use Rattle.checks.specs.Judged.{judgedBy, paramJudged, stitchJudged};
+ghost use Rattle.checks.specs.Context.{Sorted, knownIn, whatAt};
 use crate::Judged;
-use crate::ScopeView;
 use crate::Slot;
 use crate::known::is_function;
 use crate::known::is_global;
-use crate::labels::is_label;
-use crate::parameters::is_parameter;
 use bodies::items::CHOICE;
 use bodies::items::DIVERT;
-use bodies::items::TEMP;
 use bodies::items::THREAD;
 use bodies::items::TUNNEL;
 use bodies::items::choice_has_explicit_divert;
@@ -50,62 +44,6 @@ pub fn has_target(file: &[u8], slot: Slot) -> bool
         return true;
     }
     is_sort(file, slot, THREAD)
-}
-
-// A temp's name: rules 4, 6 and 7.
-fn check_temp_name(
-    file: &[u8],
-    c: Sections,
-    functions: &[u32],
-    scope: ScopeView,
-    name: &[u8],
-    scratch: &mut [u32],
-) -> Judged
-    requires { ⌜ InOrder c (now file) ⌝ }
-    requires { ⌜ Functions (now file) c (now functions) ⌝ }
-    requires { ⌜ ScopeReady (now file) scope ⌝ }
-    requires { ⌜ 2 ≤ length (now scratch) ⌝ }
-    ensures { λ r. ⌜ r ≡ tempJudged (knownIn c (now (file .entry))) (hereAt (now (file .entry)) scope) (now (name .entry)) ⌝ }
-{
-    if is_function(file, c, functions, name) {
-        return Judged::Broken(Rule::NameIsFunction);
-    }
-    if is_parameter(file, scope, name) {
-        return Judged::Broken(Rule::TempIsParameter);
-    }
-    if is_label(file, scope, name, scratch) {
-        return Judged::Broken(Rule::TempIsLabel);
-    }
-    Judged::Fine
-}
-
-// The name of an item that is a temp: rules 4, 6 and 7.
-pub fn validate_temp_name(
-    file: &[u8],
-    c: Sections,
-    functions: &[u32],
-    scope: ScopeView,
-    slot: Slot,
-    scratch: &mut [u32],
-) -> Judged
-    requires { ⌜ InOrder c (now file) ⌝ }
-    requires { ⌜ Functions (now file) c (now functions) ⌝ }
-    requires { ⌜ ScopeReady (now file) scope ⌝ }
-    requires { ⌜ 2 ≤ length (now scratch) ⌝ }
-    requires { ⌜ Sorted (now file) slot ⌝ }
-    ensures { λ r. ⌜ ((before : List What) → r ≡ judgedBy (knownIn c (now (file .entry))) (hereAt (now (file .entry)) scope) temps before (whatAt (now (file .entry)) slot)) ⌝ }
-{
-    if is_sort(file, slot, TEMP) {
-        return check_temp_name(
-            file,
-            c,
-            functions,
-            scope,
-            item_name(file, slot.place, slot.tag),
-            scratch,
-        );
-    }
-    Judged::Fine
 }
 
 // A choice directly in a branch that does not leave it: rule 11.

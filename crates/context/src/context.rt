@@ -55,7 +55,7 @@ fn validate_body(
     requires { ⌜ Ready (now file) c (now index) count (now functions) ⌝ }
     requires { ⌜ ScopeReady (now file) scope ⌝ }
     requires { ⌜ (2 ≤ length (now batch)) × (2 ≤ length (now scratch)) ⌝ }
-    requires { ⌜ Declared (now file) (scope .outer) (scope .body) (scope .stitches) (now declared) ⌝ }
+    requires { ⌜ Declared (now file) (scope .outer) (scope .body) (scope .stitches) (scope .end) (now declared) ⌝ }
     ensures { λ r. ⌜ r ≡ passesFound (now (file .entry)) c scope (passesFrom first many) ⌝ }
 {
     let items = count_items(file, scope.from, scope.to, batch);
@@ -96,7 +96,7 @@ fn validate_first_steps(
     requires { ⌜ FlowReady (now file) v ⌝ }
     requires { ⌜ Held (now file) (knotView v) items (now batch) ⌝ }
     requires { ⌜ 2 ≤ length (now scratch) ⌝ }
-    requires { ⌜ Declared (now file) (v .params) (v .from) (v .stitches) (now declared) ⌝ }
+    requires { ⌜ Declared (now file) (v .params) (v .from) (v .stitches) (v .end) (now declared) ⌝ }
     ensures { λ r. ⌜ FirstSteps (now (file .entry)) c v items r (now (batch .exit)) ⌝ }
 {
     let scope = knot_scope(v);
@@ -140,7 +140,7 @@ fn validate_stitch(
     requires { ⌜ FlowReady (now file) v ⌝ }
     requires { ⌜ StitchReady (now file) w ⌝ }
     requires { ⌜ (2 ≤ length (now batch)) × (2 ≤ length (now scratch)) ⌝ }
-    requires { ⌜ Declared (now file) (v .params) (v .from) (v .stitches) (now declared) ⌝ }
+    requires { ⌜ Declared (now file) (v .params) (v .from) (v .stitches) (v .end) (now declared) ⌝ }
     ensures { λ r. ⌜ r ≡ foundRuns (storyIn c (now (file .entry))) (stitchRuns (viewedFlow (now (file .entry)) v) (viewedStitch (now (file .entry)) w)) ⌝ }
 {
     let scope = stitch_scope(v, w);
@@ -182,7 +182,7 @@ fn validate_stitches(
     requires { ⌜ Ready (now file) c (now index) count (now functions) ⌝ }
     requires { ⌜ FlowReady (now file) v ⌝ }
     requires { ⌜ (2 ≤ length (now batch)) × (2 ≤ length (now scratch)) ⌝ }
-    requires { ⌜ Declared (now file) (v .params) (v .from) (v .stitches) (now declared) ⌝ }
+    requires { ⌜ Declared (now file) (v .params) (v .from) (v .stitches) (v .end) (now declared) ⌝ }
     ensures { λ r. ⌜ r ≡ foundRuns (storyIn c (now (file .entry))) (each (stitchRuns (viewedFlow (now (file .entry)) v)) (viewedFlow (now (file .entry)) v .stitches)) ⌝ }
 {
     let end = v.end;
@@ -231,7 +231,7 @@ fn validate_unclear_flow(
     requires { ⌜ FlowReady (now file) v ⌝ }
     requires { ⌜ Held (now file) (knotView v) items (now batch) ⌝ }
     requires { ⌜ 2 ≤ length (now scratch) ⌝ }
-    requires { ⌜ Declared (now file) (v .params) (v .from) (v .stitches) (now declared) ⌝ }
+    requires { ⌜ Declared (now file) (v .params) (v .from) (v .stitches) (v .end) (now declared) ⌝ }
     ensures { λ r. ⌜ r ≡ foundRuns (storyIn c (now (file .entry))) (laterRuns (viewedFlow (now (file .entry)) v)) ⌝ }
 {
     let scope = knot_scope(v);
@@ -305,7 +305,7 @@ fn validate_later_steps(
     requires { ⌜ FlowReady (now file) v ⌝ }
     requires { ⌜ Held (now file) (knotView v) items (now batch) ⌝ }
     requires { ⌜ 2 ≤ length (now scratch) ⌝ }
-    requires { ⌜ Declared (now file) (v .params) (v .from) (v .stitches) (now declared) ⌝ }
+    requires { ⌜ Declared (now file) (v .params) (v .from) (v .stitches) (v .end) (now declared) ⌝ }
     ensures { λ r. ⌜ r ≡ foundRuns (storyIn c (now (file .entry))) (laterRuns (viewedFlow (now (file .entry)) v)) ⌝ }
 {
     if is_clear(
@@ -373,7 +373,7 @@ fn validate_whole_flow(
     requires { ⌜ (2 ≤ length (now batch)) × (2 ≤ length (now scratch)) ⌝ }
     ensures { λ r. ⌜ r ≡ foundRuns (storyIn c (now (file .entry))) (flowRuns (viewedFlow (now (file .entry)) v)) ⌝ }
 {
-    put_declared(file, v.params, v.from, v.stitches, declared, scratch);
+    put_declared(file, v.params, v.from, v.stitches, v.end, declared, scratch);
     let items = count_items(file, v.from, v.to, batch);
     let first = validate_first_steps(
         file,
@@ -408,15 +408,18 @@ fn validate_whole_flow(
     )
 }
 
-// How much of a filter for what the flow declares is used, of so many bytes: none where the flow has no stitches, else no more than its body has.
+// How much of a filter for the names of the flow is used, of so many bytes: no more than its body and its stitches have. None where it has
+// no stitches and a short body, which is searched as it is.
 fn declared_room(v: FlowView, bytes: usize) -> usize
-    requires { ⌜ v .from ≤ v .to ⌝ }
+    requires { ⌜ v .from ≤ v .end ⌝ }
     ensures { λ r. ⌜ r ≤ bytes ⌝ }
 {
+    let length = v.end - v.from;
     if v.stitches == v.end {
-        return 0;
+        if length < 1024 {
+            return 0;
+        }
     }
-    let length = v.to - v.from;
     if length < bytes {
         return length;
     }

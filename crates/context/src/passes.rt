@@ -38,10 +38,10 @@ use checks::structure::check_function_body_purity;
 use checks::structure::check_no_direct_choice_in_branch;
 use checks::structure::has_target;
 use checks::structure::is_sort;
-use checks::structure::validate_temp_name;
 use filters::declared::validate_node_vars;
 use filters::gathers::check_gather_label;
 use filters::gathers::pass_item;
+use filters::temps::validate_temp_name;
 use filters::words::clear_filter;
 use story::Sections;
 
@@ -94,12 +94,12 @@ fn judge(
     requires { ⌜ ScopeReady (now file) scope ⌝ }
     requires { ⌜ 2 ≤ length (now scratch) ⌝ }
     requires { ⌜ Sorted (now file) slot ⌝ }
-    requires { ⌜ Declared (now file) (scope .outer) (scope .body) (scope .stitches) (now declared) ⌝ }
+    requires { ⌜ Declared (now file) (scope .outer) (scope .body) (scope .stitches) (scope .end) (now declared) ⌝ }
     requires { ⌜ Gathered (now file) (scope .from) (scope .to) (slot .number) (now gathers) ⌝ }
     ensures { λ r. ⌜ r ≡ judgedBy (knownIn c (now (file .entry))) (hereAt (now (file .entry)) scope) (rulesOf pass) (take (slot .number) (whats (bodyIn (now (file .entry)) (scope .from) (scope .to)))) (whatAt (now (file .entry)) slot) ⌝ }
 {
     match pass {
-        Pass::Temps => validate_temp_name(file, c, functions, scope, slot, scratch),
+        Pass::Temps => validate_temp_name(file, c, functions, scope, slot, declared, scratch),
         Pass::Targets => validate_node_divert(file, c, index, count, functions, hints, slot),
         Pass::Calls => validate_node_function_calls(file, c, functions, slot),
         Pass::Choices => check_no_direct_choice_in_branch(file, slot),
@@ -156,7 +156,7 @@ fn judge_item(
     requires { ⌜ ScopeReady (now file) scope ⌝ }
     requires { ⌜ 2 ≤ length (now scratch) ⌝ }
     requires { ⌜ Sorted (now file) slot ⌝ }
-    requires { ⌜ Declared (now file) (scope .outer) (scope .body) (scope .stitches) (now declared) ⌝ }
+    requires { ⌜ Declared (now file) (scope .outer) (scope .body) (scope .stitches) (scope .end) (now declared) ⌝ }
     requires { ⌜ Gathered (now file) (scope .from) (scope .to) (slot .number) (now gathers) ⌝ }
     ensures { λ r. ⌜ r ≡ judgedBy (knownIn c (now (file .entry))) (hereAt (now (file .entry)) scope) (rulesOf pass) (take (slot .number) (whats (bodyIn (now (file .entry)) (scope .from) (scope .to)))) (whatAt (now (file .entry)) slot) ⌝ }
 {
@@ -209,7 +209,7 @@ fn validate_nodes(
     requires { ⌜ ScopeReady (now file) scope ⌝ }
     requires { ⌜ Held (now file) scope items (now batch) ⌝ }
     requires { ⌜ 2 ≤ length (now scratch) ⌝ }
-    requires { ⌜ Declared (now file) (scope .outer) (scope .body) (scope .stitches) (now declared) ⌝ }
+    requires { ⌜ Declared (now file) (scope .outer) (scope .body) (scope .stitches) (scope .end) (now declared) ⌝ }
     ensures { λ r. ⌜ Walked (now (file .entry)) c scope (rulesOf pass) items r (now (batch .exit)) ⌝ }
 {
     let from = scope.from;
@@ -272,7 +272,7 @@ fn is_item_clear(
     requires { ⌜ ScopeReady (now file) scope ⌝ }
     requires { ⌜ 2 ≤ length (now scratch) ⌝ }
     requires { ⌜ Sorted (now file) slot ⌝ }
-    requires { ⌜ Declared (now file) (scope .outer) (scope .body) (scope .stitches) (now declared) ⌝ }
+    requires { ⌜ Declared (now file) (scope .outer) (scope .body) (scope .stitches) (scope .end) (now declared) ⌝ }
     requires { ⌜ Gathered (now file) (scope .from) (scope .to) (slot .number) (now gathers) ⌝ }
     ensures { λ r. ⌜ r ≡ clearAt (knownIn c (now (file .entry))) (hereAt (now (file .entry)) scope) (passesFrom first many) (take (slot .number) (whats (bodyIn (now (file .entry)) (scope .from) (scope .to)))) (whatAt (now (file .entry)) slot) ⌝ }
 {
@@ -327,7 +327,7 @@ fn is_body_clear(
     requires { ⌜ ScopeReady (now file) scope ⌝ }
     requires { ⌜ Held (now file) scope items (now batch) ⌝ }
     requires { ⌜ 2 ≤ length (now scratch) ⌝ }
-    requires { ⌜ Declared (now file) (scope .outer) (scope .body) (scope .stitches) (now declared) ⌝ }
+    requires { ⌜ Declared (now file) (scope .outer) (scope .body) (scope .stitches) (scope .end) (now declared) ⌝ }
     ensures { λ r. ⌜ Cleared (now (file .entry)) c scope (passesFrom first many) items r (now (batch .exit)) ⌝ }
 {
     clear_filter(gathers);
@@ -392,7 +392,7 @@ pub fn find_in_passes(
     requires { ⌜ ScopeReady (now file) scope ⌝ }
     requires { ⌜ Held (now file) scope items (now batch) ⌝ }
     requires { ⌜ 2 ≤ length (now scratch) ⌝ }
-    requires { ⌜ Declared (now file) (scope .outer) (scope .body) (scope .stitches) (now declared) ⌝ }
+    requires { ⌜ Declared (now file) (scope .outer) (scope .body) (scope .stitches) (scope .end) (now declared) ⌝ }
     ensures { λ r. ⌜ Passed (now (file .entry)) c scope (passesFrom first many) items r (now (batch .exit)) ⌝ }
 {
     let mut pass = first;
@@ -455,7 +455,7 @@ pub fn is_clear(
     requires { ⌜ ScopeReady (now file) scope ⌝ }
     requires { ⌜ Held (now file) scope items (now batch) ⌝ }
     requires { ⌜ 2 ≤ length (now scratch) ⌝ }
-    requires { ⌜ Declared (now file) (scope .outer) (scope .body) (scope .stitches) (now declared) ⌝ }
+    requires { ⌜ Declared (now file) (scope .outer) (scope .body) (scope .stitches) (scope .end) (now declared) ⌝ }
     ensures { λ r. ⌜ Cleared (now (file .entry)) c scope (passesFrom first many) items r (now (batch .exit)) ⌝ }
 {
     let room = filter_room(scope, gathers.len());
@@ -499,7 +499,7 @@ pub fn validate_passes(
     requires { ⌜ ScopeReady (now file) scope ⌝ }
     requires { ⌜ Held (now file) scope items (now batch) ⌝ }
     requires { ⌜ 2 ≤ length (now scratch) ⌝ }
-    requires { ⌜ Declared (now file) (scope .outer) (scope .body) (scope .stitches) (now declared) ⌝ }
+    requires { ⌜ Declared (now file) (scope .outer) (scope .body) (scope .stitches) (scope .end) (now declared) ⌝ }
     ensures { λ r. ⌜ Passed (now (file .entry)) c scope (passesFrom first many) items r (now (batch .exit)) ⌝ }
 {
     if is_clear(

@@ -60,7 +60,7 @@ pub fn validate_function_purity(
     requires { ⌜ scope ≡ knotView v ⌝ }
     requires { ⌜ Held (now file) scope items (now batch) ⌝ }
     requires { ⌜ 2 ≤ length (now scratch) ⌝ }
-    requires { ⌜ Declared (now file) (scope .outer) (scope .body) (scope .stitches) (now declared) ⌝ }
+    requires { ⌜ Declared (now file) (scope .outer) (scope .body) (scope .stitches) (scope .end) (now declared) ⌝ }
     ensures { λ r. ⌜ Purified (now (file .entry)) c v items r (now (batch .exit)) ⌝ }
 {
     if v.function {

@@ -1,5 +1,6 @@
--- Words added one after the other: the names after a count byte, and the names of items of a sort. Assumes nothing.
+-- Words added one after the other: the names after a count byte, the names of items of a sort, and labels. Assumes nothing.
 use mathlib.Core.Path.{_≡_, refl, sym, _∙_}
+use mathlib.Core.Bool.{Bool, true, false}
 use mathlib.Core.List.{List, [], _∷_, _++_}
 use Prim.Native.Nat.{ℕ, zero, suc, _+_, _-_, _≤_, _<_}
 use native.Mathlib.Numerals.{add-one, sub-one}
@@ -12,7 +13,16 @@ use Rattle.names.specs.Counted.{nameAt}
 use Rattle.story.specs.Story.{What, Item, code, words, whats}
 use Rattle.story.specs.Flows.{namesN, countedIn}
 use Rattle.story.proofs.Unfolding.{names-n-zero, names-n-none}
-use Rattle.filters.specs.Words.{added, addedAll, sortNamed}
+use Rattle.searches.specs.declared.views.StitchView.{StitchView}
+use Rattle.searches.specs.declared.views.StitchViewRead.{StitchViewRead}
+use Rattle.searches.specs.declared.views.StitchViewRead.the-variants as read
+use Rattle.searches.specs.Views.{stitchViewOf}
+use Rattle.searches.proofs.Viewed.{stitch-viewed}
+use Rattle.bodies.specs.Bodies.{bodyIn}
+use Rattle.checks.specs.Context.{StitchesReady}
+use Rattle.checks.proofs.Stitches.{stitches-none}
+use Rattle.filters.specs.Words.{added, addedAll, sortNamed, labelNamed}
+use Rattle.filters.specs.Names.{stitchLabels}
 
 -- 1. The names after a count byte
 
@@ -65,24 +75,58 @@ module _ (filter : List ℕ) (w : What) {sort wanted : ℕ} (e : sort ≡ code (
   unfolding addedAll sortNamed
   item-passed s = rw (ne-eqb wanted (code (w .kind)) (λ q. s (e ∙ sym q)))
 
+-- 3. The names of labels
+
+module _ (filter : List ℕ) (w : What) {b : Bool} (e : b ≡ w .labels) where
+  pub label-added : b ≡ true → {name : Bytes} → name ≡ w .name → {after : List ℕ} → after ≡ added filter name → after ≡ addedAll filter (labelNamed w)
+  unfolding addedAll labelNamed
+  label-added t n a = a ∙ rw (← e, t, n)
+
+  pub label-passed : b ≡ false → filter ≡ addedAll filter (labelNamed w)
+  unfolding addedAll labelNamed
+  label-passed f = rw (← e, f)
+
+-- 4. Names of items one after the other, and of the stitches
+
 added-append : (vs ws : List Bytes) (filter : List ℕ) → addedAll filter (vs ++ ws) ≡ addedAll (addedAll filter vs) ws
 unfolding addedAll
 added-append [] ws filter = refl
 added-append (v ∷ vs) ws filter = added-append vs ws (added filter v)
 
--- of the items of the sort, those from number i on are left to be added
-pub record ItemsLeft (sort : ℕ) (start : List ℕ) (body : List Item) (filter : List ℕ) (i : ℕ) : Type 0 where
-  pub rest : addedAll start (each (sortNamed sort) (whats body)) ≡ addedAll filter (each (sortNamed sort) (whats (drop i body)))
+-- of the names that items give, those of the items from number i on are left to be added
+pub record ItemsLeft (names : What → List Bytes) (start : List ℕ) (body : List Item) (filter : List ℕ) (i : ℕ) : Type 0 where
+  pub rest : addedAll start (each names (whats body)) ≡ addedAll filter (each names (whats (drop i body)))
 
-pub items-start : (sort : ℕ) (filter : List ℕ) (body : List Item) → ItemsLeft sort filter body filter 0
-items-start sort filter body = record { rest = refl }
+pub items-start : (names : What → List Bytes) (filter : List ℕ) (body : List Item) → ItemsLeft names filter body filter 0
+items-start names filter body = record { rest = refl }
 
-module _ {sort : ℕ} {start : List ℕ} {body : List Item} {filter : List ℕ} {i : ℕ} (items : ItemsLeft sort start body filter i) where
-  pub items-end : length body ≤ i → filter ≡ addedAll start (each (sortNamed sort) (whats body))
+module _ {names : What → List Bytes} {start : List ℕ} {body : List Item} {filter : List ℕ} {i : ℕ} (items : ItemsLeft names start body filter i) where
+  pub items-end : length body ≤ i → filter ≡ addedAll start (each names (whats body))
   unfolding addedAll
   items-end h = sym (items .rest ∙ rw (drop-of-length-le body h))
 
-  -- item number i is added if it is of the sort
-  pub items-next : {x : Item} → drop i body ≡ x ∷ drop (i + 1) body → {after : List ℕ} → after ≡ addedAll filter (sortNamed sort (x .what))
-      → ItemsLeft sort start body after (i + 1)
-  items-next {x} there e = record { rest = items .rest ∙ rw (there, added-append (sortNamed sort (x .what)) (each (sortNamed sort) (whats (drop (i + 1) body))) filter, ← e) }
+  -- the names of item number i are added
+  pub items-next : {x : Item} → drop i body ≡ x ∷ drop (i + 1) body → {after : List ℕ} → after ≡ addedAll filter (names (x .what))
+      → ItemsLeft names start body after (i + 1)
+  items-next {x} there e = record { rest = items .rest ∙ rw (there, added-append (names (x .what)) (each names (whats (drop (i + 1) body))) filter, ← e) }
+
+-- of the labels of stitches, those of the stitches from the place on are left to be added
+pub record StitchesLeft (file start : List ℕ) (from end : ℕ) (filter : List ℕ) (at : ℕ) : Type 0 where
+  pub rest : addedAll start (stitchLabels file from end) ≡ addedAll filter (stitchLabels file at end)
+
+pub stitches-start : (file filter : List ℕ) (at end : ℕ) → StitchesLeft file filter at end filter at
+stitches-start file filter at end = record { rest = refl }
+
+module _ {file start : List ℕ} {from end : ℕ} {filter : List ℕ} {at : ℕ} (left : StitchesLeft file start from end filter at)
+    (ready : StitchesReady file at end) {r : StitchViewRead} (told : r ≡ stitchViewOf file at end) where
+  pub stitches-end : r ≡ read.None → filter ≡ addedAll start (stitchLabels file from end)
+  unfolding addedAll
+  stitches-end q = sym (left .rest ∙ rw (stitches-none file at end ready told q))
+
+  -- the labels of the stitch at the place are added
+  pub stitches-next : (v : StitchView) → r ≡ read.View v → {after : List ℕ} → after ≡ addedAll filter (each labelNamed (whats (bodyIn file (v .from) (v .to))))
+      → StitchesLeft file start from end after (v .end)
+  stitches-next v q e = record {
+    rest = left .rest
+        ∙ rw (stitch-viewed file at end v told q, added-append (each labelNamed (whats (bodyIn file (v .from) (v .to)))) (stitchLabels file (v .end) end) filter, ← e);
+  }

@@ -1,22 +1,25 @@
--- Filters over the names of a body: what it declares, and the gathers before an item. Assumes nothing.
+-- Filters over the names of a body: what it declares, its labels, and the gathers before an item. Assumes nothing.
 use mathlib.Core.Path.{_≡_, refl, sym, _∙_}
 use mathlib.Core.Bool.{Bool, true, false, _&&_, _||_, true≢false, or-assoc, or-false}
-use mathlib.Core.List.{List, [], _∷_, nil≢cons}
-use Prim.Native.Nat.{ℕ, zero, suc, _+_, _-_}
+use mathlib.Core.List.{List, [], _∷_, _++_, nil≢cons, append-nil}
+use Prim.Native.Nat.{ℕ, zero, suc, _+_, _-_, _/_}
 use native.Mathlib.Numerals.{add-one}
+use native.Mathlib.Omega.{arith}
 use lib.Dec.{eqb}
-use lib.ListN.{length, take, drop}
+use lib.ListN.{length, take, drop, length-append, length-take, length-drop, drop-of-length-le}
+use lib.Seq.{take-all, take-at, drop-at, take-append-seam, drop-append-seam}
+use borrow.Rule.Slice.PartMut.{putMid}
 use Rattle.names.specs.Words.{Bytes, same, any, each, one-of}
 use Rattle.names.proofs.Any.{any-only, any-each, any-same}
-use Rattle.story.specs.Story.{temp, gather, code, What, is, Item, words, whats}
-use Rattle.story.specs.Flows.{countedIn}
+use Rattle.story.specs.Story.{temp, gather, code, What, is, Item, Stitch, words, whats}
+use Rattle.story.specs.Flows.{countedIn, part, piecesIn, stitchIn}
 use Rattle.searches.proofs.Answers.{counted-answer}
 use Rattle.bodies.specs.Bodies.{bodyIn}
-use Rattle.bodies.specs.Search.{tempIn, gatherAmong}
-use Rattle.checks.specs.Context.{countedAt, hereAt}
+use Rattle.bodies.specs.Search.{labelIn, tempIn, gatherAmong}
+use Rattle.checks.specs.Context.{countedAt, declaredAt, stitchLabel, hereAt}
 use Rattle.checks.specs.declared.ScopeView.{ScopeView}
-use Rattle.filters.specs.Words.{addedAll, lacks, sortNamed, Covers}
-use Rattle.filters.specs.Names.{Declared, Gathered, passed}
+use Rattle.filters.specs.Words.{addedAll, lacks, sortNamed, labelNamed, Covers}
+use Rattle.filters.specs.Names.{Declared, labelAt, stitchLabels, Gathered, passed}
 use Rattle.filters.proofs.Covering.{lacked, covers-none, covers-same, covers-all, covers-or, holds-all}
 
 -- 1. The names of items of a sort
@@ -28,28 +31,74 @@ sort-test sort n w = any-only (same n) (eqb sort (code (w .kind))) (w .name)
 sort-tests : (sort : ℕ) (ws : List What) (n : Bytes) → any (λ (w : What). eqb sort (code (w .kind)) && same n (w .name)) ws ≡ one-of n (each (sortNamed sort) ws)
 sort-tests sort ws n = sym (any-each (same n) (sortNamed sort) ws ∙ any-same _ _ (sort-test sort n) ws)
 
--- 2. What a body declares
+label-tests : (ws : List What) (n : Bytes) → any (λ (w : What). w .labels && same n (w .name)) ws ≡ one-of n (each labelNamed ws)
+unfolding labelNamed
+label-tests ws n = sym (any-each (same n) labelNamed ws ∙ any-same _ _ (λ (w : What). any-only (same n) (w .labels) (w .name)) ws)
 
-module _ {file : List ℕ} {params from to : ℕ} where
+-- 2. What a knot declares, and its labels
+
+module _ (file : List ℕ) (from to : ℕ) where
   -- the parameters were added, and then the temps
-  pub declared-put : (start : List ℕ) {named filter : List ℕ} → named ≡ addedAll start (words (countedIn 0 (take (length file - params) (drop params file))))
-      → filter ≡ addedAll named (each (sortNamed (code temp)) (whats (bodyIn file from to))) → Declared file params from to filter
-  declared-put start {named} e f =
+  pub names-put : (params : ℕ) (start : List ℕ) {named filter : List ℕ} → named ≡ addedAll start (words (countedIn 0 (take (length file - params) (drop params file))))
+      → filter ≡ addedAll named (each (sortNamed (code temp)) (whats (bodyIn file from to))) → Covers filter (declaredAt file params from to)
+  names-put params start {named} e f =
       let params-covered : Covers named (countedAt file params)
       = rw e (covers-same (holds-all _ start) (countedAt file params) (λ n. sym (counted-answer file n params refl))) in
       let temps-covered : Covers _ (tempIn (bodyIn file from to))
       = covers-same (holds-all _ named) (tempIn (bodyIn file from to)) (sort-tests (code temp) (whats (bodyIn file from to))) in
-      record { covers = rw f (covers-or (covers-all (each (sortNamed (code temp)) (whats (bodyIn file from to))) params-covered) temps-covered) }
+      rw f (covers-or (covers-all (each (sortNamed (code temp)) (whats (bodyIn file from to))) params-covered) temps-covered)
 
-  -- a filter without slots lacks nothing
-  pub declared-none : (filter : List ℕ) → length filter ≡ 0 → Declared file params from to filter
-  declared-none filter h = record { covers = covers-none filter h _ }
+  -- the labels of the body were added, and then those of the stitches
+  pub labels-put : (end : ℕ) (start : List ℕ) {own filter : List ℕ} → own ≡ addedAll start (each labelNamed (whats (bodyIn file from to)))
+      → filter ≡ addedAll own (stitchLabels file to end) → Covers filter (labelAt file from to end)
+  labels-put end start {own} e f =
+      let own-covered : Covers own (labelIn (bodyIn file from to))
+      = rw e (covers-same (holds-all _ start) (labelIn (bodyIn file from to)) (label-tests (whats (bodyIn file from to)))) in
+      let stitches-covered : Covers _ (stitchLabel file to end)
+      = covers-same (holds-all _ own) (stitchLabel file to end) (stitch-tests (piecesIn stitchIn to (part to end file))) in
+      rw f (covers-or (covers-all (stitchLabels file to end) own-covered) stitches-covered)
+    where
+      stitch-tests : (ts : List Stitch) (n : Bytes) → any (λ (t : Stitch). labelIn (t .body) n) ts ≡ one-of n (each (λ (t : Stitch). each labelNamed (whats (t .body))) ts)
+      stitch-tests ts n = sym (any-each (same n) _ ts ∙ any-same _ _ (λ (t : Stitch). sym (label-tests (whats (t .body)) n)) ts)
 
--- the filter lacks the name, so that it is not forbidden
-pub not-forbidden : {file filter : List ℕ} (v : ScopeView) → Declared file (v .outer) (v .body) (v .stitches) filter
-    → (n : Bytes) {r : Bool} → r ≡ lacks filter n → r ≡ true → false ≡ hereAt file v .forbidden n
-unfolding hereAt
-not-forbidden v d n e t = rw (lacked (d .covers) e t)
+-- a filter without slots lacks nothing
+pub declared-none : {file : List ℕ} {params from to end : ℕ} (filter : List ℕ) → length filter ≡ 0 → Declared file params from to end filter
+declared-none filter h = record {
+  covers = covers-none (take (length filter / 2) filter) (omega (arith, length-take (length filter / 2) filter)) _;
+  labels = covers-none (drop (length filter / 2) filter) (omega (arith, length-drop (length filter / 2) filter)) _;
+}
+
+-- the halves of a filter, one put after the other
+module _ (before names labels : List ℕ) (p : length names ≡ length before / 2) (q : length labels ≡ length before - length before / 2) where
+  abbrev put : List ℕ
+  put = putMid (length before / 2) (length (names ++ drop (length before / 2) before) - length before / 2) (names ++ drop (length before / 2) before) labels
+
+  joined : put ≡ names ++ labels
+  joined =
+      let half = length before / 2 in
+      let all : length (names ++ drop half before) ≡ length before = omega (arith, length-append names (drop half before), length-drop half before) in
+      let none : drop (length before - half) (drop half before) ≡ [] = drop-of-length-le (drop half before) {i = length before - half} (omega (arith, length-drop half before)) in
+      rw (all, take-at names (drop half before) half p, drop-at names (drop half before) half p, none, append-nil labels)
+
+  pub declared-put : {file : List ℕ} {params from to end : ℕ} → Covers names (declaredAt file params from to) → Covers labels (labelAt file from to end)
+      → Declared file params from to end put
+  declared-put n l =
+      let half : length (names ++ labels) / 2 ≡ length names = omega (arith, length-append names labels) in
+      rw joined (record { covers = rw (half, take-append-seam names labels) n; labels = rw (half, drop-append-seam names labels) l })
+
+module _ {file filter : List ℕ} (v : ScopeView) (declared : Declared file (v .outer) (v .body) (v .stitches) (v .end) filter) (n : Bytes) {r : Bool} where
+  -- the first half lacks the name, so that it is not forbidden
+  pub not-forbidden : r ≡ lacks (take (length filter / 2) filter) n → r ≡ true → false ≡ hereAt file v .forbidden n
+  unfolding hereAt
+  not-forbidden e t = rw (lacked (declared .covers) e t)
+
+  -- the second half lacks the name, so that it is no label
+  pub not-label : r ≡ lacks (take (length filter - length filter / 2) (drop (length filter / 2) filter)) n → r ≡ true → false ≡ hereAt file v .label n
+  unfolding hereAt
+  not-label e t =
+      let half = length filter / 2 in
+      let all = take-all (length filter - half) (drop half filter) (omega (arith, length-drop half filter)) in
+      sym (lacked (declared .labels) (rw all at e) t)
 
 -- 3. The gathers before an item
 

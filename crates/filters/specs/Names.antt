@@ -1,16 +1,29 @@
 -- Filters over the names of a body. Assumes nothing.
-use Prim.Native.Nat.{ℕ}
+use Prim.Native.Nat.{ℕ, _/_}
+use mathlib.Core.Bool.{Bool, _||_}
 use mathlib.Core.List.{List}
-use lib.ListN.{take}
-use Rattle.story.specs.Story.{gather, code, What, whats}
+use lib.ListN.{length, take, drop}
+use Rattle.names.specs.Words.{Bytes, each}
+use Rattle.story.specs.Story.{gather, code, What, Stitch, whats}
+use Rattle.story.specs.Flows.{part, piecesIn, stitchIn}
 use Rattle.bodies.specs.Bodies.{bodyIn}
-use Rattle.bodies.specs.Search.{gatherAmong}
-use Rattle.checks.specs.Context.{declaredAt}
-use Rattle.filters.specs.Words.{addedAll, sortNamed, Covers}
+use Rattle.bodies.specs.Search.{labelIn, gatherAmong}
+use Rattle.checks.specs.Context.{declaredAt, stitchLabel}
+use Rattle.filters.specs.Words.{addedAll, sortNamed, labelNamed, Covers}
 
--- the filter lacks no parameter and no temp of the flow or the stitch with these parameters and this body
-pub record Declared (file : List ℕ) (params from to : ℕ) (filter : List ℕ) : Type 0 where
-  pub covers : Covers filter (declaredAt file params from to)
+-- a label of the body, or of a stitch after it
+abbrev pub labelAt : List ℕ → ℕ → ℕ → ℕ → Bytes → Bool
+labelAt file from to end n = labelIn (bodyIn file from to) n || stitchLabel file to end n
+
+-- the labels of the stitches from the place on
+abbrev pub stitchLabels : List ℕ → ℕ → ℕ → List Bytes
+stitchLabels file at end = each (λ (t : Stitch). each labelNamed (whats (t .body))) (piecesIn stitchIn at (part at end file))
+
+-- of a filter of the knot with these parameters, this body and the stitches after it, the first half lacks no parameter and no temp,
+-- the second no label
+pub record Declared (file : List ℕ) (params from to end : ℕ) (filter : List ℕ) : Type 0 where
+  pub covers : Covers (take (length filter / 2) filter) (declaredAt file params from to)
+  pub labels : Covers (drop (length filter / 2) filter) (labelAt file from to end)
 
 -- the filter lacks no gather before item number i of the body
 pub record Gathered (file : List ℕ) (from to i : ℕ) (filter : List ℕ) : Type 0 where

@@ -26,6 +26,10 @@ lacks filter w = eqb (getD filter (slotOf filter w) 1) 0
 unfoldable pub sortNamed : ℕ → What → List Bytes
 sortNamed sort w = only (eqb sort (code (w .kind))) (w .name)
 
+-- the name of an item that is a label, and nothing of any other
+unfoldable pub labelNamed : What → List Bytes
+labelNamed w = only (w .labels) (w .name)
+
 -- the filter lacks no word that passes the test
 pub record Covers (filter : List ℕ) (test : Bytes → Bool) : Type 0 where
   pub kept : (w : Bytes) → test w ≡ true → lacks filter w ≡ false

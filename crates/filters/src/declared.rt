@@ -1,4 +1,4 @@
-// A filter over what a knot declares, its parameters and the temps of its own list: rule 15 (variables.rs).
+// A filter over the names of a knot, in halves: what it declares, its parameters and the temps of its own list; and the labels. Rule 15 (variables.rs).
 ghost use mathlib.Core.Path.{_≡_};
 ghost use mathlib.Core.List.{List};
 ghost use Prim.Native.Nat.{_≤_};
@@ -9,9 +9,10 @@ ghost use Rattle.rules.specs.Rules.{Known};
 ghost use Rattle.rules.specs.Steps.{bracket, Step};
 ghost use Rattle.bodies.specs.Bodies.{bodyIn, Range};
 ghost use Rattle.checks.specs.Judged.{judgedBy};
-ghost use Rattle.checks.specs.Context.{ScopeReady, Sorted, hereAt, whatAt};
-ghost use Rattle.filters.specs.Words.{addedAll, sortNamed};
+ghost use Rattle.checks.specs.Context.{ScopeReady, StitchesReady, Sorted, declaredAt, hereAt, whatAt};
+ghost use Rattle.filters.specs.Words.{addedAll, sortNamed, Covers};
 ghost use Rattle.filters.specs.Names.{Declared};
+use crate::labels::put_labels;
 use crate::words::add_counted;
 use crate::words::add_item;
 use crate::words::clear_filter;
@@ -48,8 +49,8 @@ fn add_temps(filter: &mut [u8], file: &[u8], from: usize, to: usize, scratch: &m
     }
 }
 
-// Empties the filter, and adds the parameters and the temps of the body. What it had before would only cost searches. One without slots stays.
-pub fn put_declared(
+// Empties the filter, and adds the parameters and the temps of the body.
+fn put_names(
     file: &[u8],
     params: usize,
     from: usize,
@@ -60,17 +61,39 @@ pub fn put_declared(
     requires { ⌜ params ≤ length (now file) ⌝ }
     requires { ⌜ Range (now file) from to ⌝ }
     requires { ⌜ 2 ≤ length (now scratch) ⌝ }
-    ensures { λ r. ⌜ Declared (now (file .entry)) params from to (now (filter .exit)) ⌝ }
+    ensures { λ r. ⌜ Covers (now (filter .exit)) (declaredAt (now (file .entry)) params from to) ⌝ }
 {
-    if filter.len() == 0 {
-        return;
-    }
     clear_filter(filter);
     add_counted(filter, &file[params..]);
     add_temps(filter, file, from, to, scratch);
 }
 
-// The name is forbidden in the stitch: its knot declares it, and it does not. Not searched for where the filter lacks it.
+// The first half gets the parameters and the temps of the body, the second its labels and those of the stitches after it.
+// What the filter had before would only cost searches. One without slots stays.
+pub fn put_declared(
+    file: &[u8],
+    params: usize,
+    from: usize,
+    to: usize,
+    end: usize,
+    filter: &mut [u8],
+    scratch: &mut [u32],
+)
+    requires { ⌜ params ≤ length (now file) ⌝ }
+    requires { ⌜ Range (now file) from to ⌝ }
+    requires { ⌜ StitchesReady (now file) to end ⌝ }
+    requires { ⌜ 2 ≤ length (now scratch) ⌝ }
+    ensures { λ r. ⌜ Declared (now (file .entry)) params from to end (now (filter .exit)) ⌝ }
+{
+    if filter.len() == 0 {
+        return;
+    }
+    let half = filter.len() / 2;
+    put_names(file, params, from, to, &mut filter[..half], scratch);
+    put_labels(file, from, to, end, &mut filter[half..], scratch);
+}
+
+// The name is forbidden in the stitch: its knot declares it, and it does not. Not searched for where the filter's first half lacks it.
 pub fn is_forbidden_in(
     file: &[u8],
     scope: ScopeView,
@@ -79,11 +102,12 @@ pub fn is_forbidden_in(
     scratch: &mut [u32],
 ) -> bool
     requires { ⌜ ScopeReady (now file) scope ⌝ }
-    requires { ⌜ Declared (now file) (scope .outer) (scope .body) (scope .stitches) (now filter) ⌝ }
+    requires { ⌜ Declared (now file) (scope .outer) (scope .body) (scope .stitches) (scope .end) (now filter) ⌝ }
     requires { ⌜ 2 ≤ length (now scratch) ⌝ }
     ensures { λ r. ⌜ r ≡ hereAt (now (file .entry)) scope .forbidden (now (name .entry)) ⌝ }
 {
-    if lacks_word(filter, name) {
+    let half = filter.len() / 2;
+    if lacks_word(&filter[..half], name) {
         return false;
     }
     is_forbidden(file, scope, name, scratch)
@@ -100,7 +124,7 @@ pub fn validate_node_vars(
     requires { ⌜ ScopeReady (now file) scope ⌝ }
     requires { ⌜ 2 ≤ length (now scratch) ⌝ }
     requires { ⌜ Sorted (now file) slot ⌝ }
-    requires { ⌜ Declared (now file) (scope .outer) (scope .body) (scope .stitches) (now filter) ⌝ }
+    requires { ⌜ Declared (now file) (scope .outer) (scope .body) (scope .stitches) (scope .end) (now filter) ⌝ }
     ensures { λ r. ⌜ ((k : Known) (before : List What) → r ≡ judgedBy k (hereAt (now (file .entry)) scope) (bracket Step.s17) before (whatAt (now (file .entry)) slot)) ⌝ }
 {
     if is_sort(file, slot, VARIABLE) {

@@ -70,7 +70,7 @@ same-length-8 : tie.Need-same-length-8 Inv-loop μ-loop
 same-length-8 c = omega (arith, c .before .before .before .before .before .before .before .before .before .before .before .before .before .before .before .before .before .before .before .before .loop .inv .0)
 
 declared-room-requires : tie.Need-declared-room-requires Inv-loop μ-loop
-declared-room-requires c κs = flow-seen-ready _ _ _ (c .before .before .before .before .loop .inv .1) (c .before .before .before .flow-view .ensures) _ (c .before .v .given .1) .body .ordered
+declared-room-requires c κs = let ready = flow-seen-ready _ _ _ (c .before .before .before .before .loop .inv .1) (c .before .before .before .flow-view .ensures) _ (c .before .v .given .1) in omega (arith, ready .body .ordered, ready .joined, ready .stitches .ordered)
 
 slice-aggregate-validate-whole-flow : tie.Need-slice-aggregate-validate-whole-flow Inv-loop μ-loop
 slice-aggregate-validate-whole-flow c = omega (arith, length-take (c .before .declared-room .result) (c .before .before .before .before .before .before .loop .declared), c .before .declared-room .ensures)

@@ -11,7 +11,7 @@ use Rattle.context.proofs.context.validate_whole_flow.Tie as tie
 put-declared-requires : tie.Need-put-declared-requires
 put-declared-requires c κs =
     let pre = c .before .before .before .before .before .before .before .before .before .before .pre in
-    (omega (arith, pre .1 .0 .params), (knot-ready _ _ (pre .1 .0) .knot, pre .1 .1 .1))
+    (omega (arith, pre .1 .0 .params), (knot-ready _ _ (pre .1 .0) .knot, (pre .1 .0 .stitches, pre .1 .1 .1)))
 
 validate-first-steps-requires : tie.Need-validate-first-steps-requires
 validate-first-steps-requires c κs =

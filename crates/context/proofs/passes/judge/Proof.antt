@@ -37,7 +37,7 @@ unfolding rulesOf
 returns-8 c = rw (c .before .enum-told8 .given .1) (c .check-function-body-purity .ensures _ _ _)
 
 validate-temp-name-requires : tie.Need-validate-temp-name-requires
-validate-temp-name-requires c κs = (c .before .before .before .before .before .before .before .before .before .before .pre .0 .sections, (c .before .before .before .before .before .before .before .before .before .before .pre .0 .functions-known, (c .before .before .before .before .before .before .before .before .before .before .pre .1 .0, (c .before .before .before .before .before .before .before .before .before .before .pre .1 .1 .0, c .before .before .before .before .before .before .before .before .before .before .pre .1 .1 .1 .0))))
+validate-temp-name-requires c κs = (c .before .before .before .before .before .before .before .before .before .before .pre .0 .sections, (c .before .before .before .before .before .before .before .before .before .before .pre .0 .functions-known, (c .before .before .before .before .before .before .before .before .before .before .pre .1 .0, (c .before .before .before .before .before .before .before .before .before .before .pre .1 .1 .0, (c .before .before .before .before .before .before .before .before .before .before .pre .1 .1 .1 .0, c .before .before .before .before .before .before .before .before .before .before .pre .1 .1 .1 .1 .0)))))
 
 validate-node-divert-requires : tie.Need-validate-node-divert-requires
 validate-node-divert-requires c κs = (c .before .before .before .before .before .before .before .before .before .pre .0, c .before .before .before .before .before .before .before .before .before .pre .1 .1 .1 .0)

@@ -7,13 +7,14 @@ use lib.ListN.{length}
 use Rattle.story.specs.Story.{temp, code}
 use Rattle.bodies.specs.Bodies.{bodyIn, Fetched}
 use Rattle.bodies.proofs.Fetching.{fetched-item}
+use Rattle.filters.specs.Words.{sortNamed}
 use Rattle.filters.proofs.Adding.{ItemsLeft, items-start, items-end, items-next}
 use borrow.Author.Needs.{needs}
 use Rattle.filters.proofs.declared.add_temps.Statement.{statement}
 use Rattle.filters.proofs.declared.add_temps.Tie as tie
 
 abbrev Inv-loop : tie.InvT-loop
-Inv-loop filter₀ file from to scratch₀ end skip₀ i₀ filter scratch skip i = ((i ≤ end) × (skip ≤ i) × (length filter ≡ length filter₀) × (length scratch ≡ length scratch₀)) × Fetched file from to skip scratch × ItemsLeft (code temp) filter₀ (bodyIn file from to) filter i
+Inv-loop filter₀ file from to scratch₀ end skip₀ i₀ filter scratch skip i = ((i ≤ end) × (skip ≤ i) × (length filter ≡ length filter₀) × (length scratch ≡ length scratch₀)) × Fetched file from to skip scratch × ItemsLeft (sortNamed (code temp)) filter₀ (bodyIn file from to) filter i
 
 abbrev μ-loop : tie.MeasureT-loop
 μ-loop filter₀ file from to scratch₀ end skip₀ i₀ filter scratch skip i = end - i

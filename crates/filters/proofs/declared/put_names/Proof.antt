@@ -1,0 +1,23 @@
+-- `put_names`: the parameters are added, and then the temps. Assumes nothing.
+use native.Mathlib.Omega.{arith}
+use Rattle.filters.proofs.Bodies.{names-put}
+use borrow.Author.Needs.{needs}
+use Rattle.filters.proofs.declared.put_names.Statement.{statement}
+use Rattle.filters.proofs.declared.put_names.Tie as tie
+
+returns : tie.Need-returns
+returns c = names-put _ _ _ _ _ (c .before .before .before .before .before .before .before .before .before .add-counted .ensures) (c .before .before .before .before .add-temps .ensures)
+
+pub put-names-spec : {M : Type 1} → statement M
+put-names-spec =
+    tie.close
+    (tie.spec
+    (λ c κs. search needs)
+    (λ c. search needs)
+    (λ c. search needs)
+    (λ c. search needs)
+    (λ c κs. search needs)
+    (λ c κs. search needs)
+    (λ c. search needs)
+    (λ c. search needs)
+    returns)

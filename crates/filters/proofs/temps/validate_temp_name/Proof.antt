@@ -1,0 +1,27 @@
+-- `validate_temp_name`: rules 4, 6 and 7 at an item that is a temp. Assumes nothing.
+use mathlib.Core.Path.{refl}
+use Rattle.checks.proofs.Cases.{picked, passed}
+use Rattle.checks.proofs.Recorded.{temps-at}
+use borrow.Author.Needs.{needs}
+use Rattle.filters.proofs.temps.validate_temp_name.Statement.{statement}
+use Rattle.filters.proofs.temps.validate_temp_name.Tie as tie
+
+check-temp-name-requires : tie.Need-check-temp-name-requires
+check-temp-name-requires c κs = (c .before .before .before .before .before .before .before .before .pre .0, (c .before .before .before .before .before .before .before .before .pre .1 .0, (c .before .before .before .before .before .before .before .before .pre .1 .1 .0, (c .before .before .before .before .before .before .before .before .pre .1 .1 .1 .0, c .before .before .before .before .before .before .before .before .pre .1 .1 .1 .1 .1))))
+
+returns : tie.Need-returns
+returns c before = rw (temps-at _ _ before (c .before .before .before .before .before .before .before .before .before .before .before .args .file .now) (c .before .before .before .before .before .before .before .before .before .before .before .args .slot)) (picked _ (c .before .before .before .before .before .before .is-sort .ensures) (c .before .before .before .before .before .if1 .taken) (rw (c .before .before .before .before .item-name .ensures) at (c .before .before .check-temp-name .ensures)))
+
+returns-2 : tie.Need-returns-2
+returns-2 c before = rw (temps-at _ _ before (c .before .before .before .before .before .before .args .file .now) (c .before .before .before .before .before .before .args .slot)) (passed _ (c .before .is-sort .ensures) (c .if1 .left) refl)
+
+pub validate-temp-name-spec : {M : Type 1} → statement M
+validate-temp-name-spec =
+    tie.close
+    (tie.spec
+    (λ c κs. search needs)
+    (λ c κs. search needs)
+    check-temp-name-requires
+    (λ c. search needs)
+    returns
+    returns-2)
