@@ -1,5 +1,5 @@
 -- The steps as run, by what the passes and the tests along them find. Assumes nothing.
-use mathlib.Core.Path.{_≡_, refl, sym, _∙_}
+use mathlib.Core.Path.{_≡_, refl, sym, ap, _∙_}
 use mathlib.Core.Bool.{Bool, true, false}
 use mathlib.Core.List.{List, [], _∷_, _++_, append-assoc}
 use Prim.Native.Nat.{ℕ}
@@ -17,6 +17,7 @@ use Rattle.rules.specs.declared.Rule.the-variants.{FunctionWithStitches}
 use Rattle.rules.specs.Rules.{Here, known, here, Scope, root, knot, stitch}
 use Rattle.rules.specs.Steps.{Step, s5, s6, s12, s19, s20, bracket, gathers, rootSteps, flowSteps, stitchSteps, Run, over, nameItem, paramItems, stitchItems, purityItems, stitchRuns, flowRuns, runs, verdict, namesOf, flowNamed}
 use Rattle.checks.specs.declared.Judged.the-variants as judged
+use Rattle.checks.specs.Context.{knownIn, hereAt}
 use Rattle.context.specs.declared.BreachAt.{BreachAt}
 use Rattle.context.specs.declared.Found.{Found}
 use Rattle.context.specs.declared.Found.the-variants as found
