@@ -13,7 +13,9 @@ enum-known-h : tie.Need-enum-known-h
 enum-known-h c = search needs
 
 add-result : tie.Need-add-result
-add-result c = omega (arith, head-fits (c .before .before .before .before .before .args .s .now) (c .before .h .given .0 .0) (c .before .h .given .0 .1 .0) (c .before .before .before .read-head .ensures) (c .before .h .given .1))
+add-result c =
+    let start = c .before .before .before .before .before in
+    omega (arith, head-fits (start .args .s .now) (c .before .h .given .0 .0) (c .before .h .given .0 .1 .0) (c .before .before .before .read-head .ensures) (c .before .h .given .1))
 
 enum-told : tie.Need-enum-told
 enum-told c = search needs

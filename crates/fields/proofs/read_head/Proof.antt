@@ -35,8 +35,9 @@ shared-slice-read-t12 c = search needs
 
 returns-3 : tie.Need-returns-3
 returns-3 c =
-    let start = c .before .before .before .before .before .before .before .before .before in
-    let if1 = c .before .before .before .before .before .before .before .if1 in
+    let at-if1 = c .before .before .before .before .before .before .before in
+    let start = at-if1 .before .before in
+    let if1 = at-if1 .if1 in
     let word = c .before .before .word in
     rw (word .ensures) (sym (head-whole (start .args .s .now) (omega (arith, word .ensures, if1 .left, c .before .if2 .left))))
 

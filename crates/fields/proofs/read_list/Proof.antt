@@ -31,7 +31,10 @@ returns-2 : tie.Need-returns-2
 returns-2 c = sym (list-short (c .before .before .before .before .before .before .before .before .args .s .now) (omega (arith, c .before .word .ensures, c .if2 .taken)))
 
 returns-3 : tie.Need-returns-3
-returns-3 c = rw (c .before .word .ensures) (sym (list-whole (c .before .before .before .before .before .before .before .before .args .s .now) (omega (arith, c .before .word .ensures, c .before .before .before .before .before .before .if1 .left, c .if2 .left))))
+returns-3 c =
+    let at-if1 = c .before .before .before .before .before .before in
+    let start = at-if1 .before .before in
+    rw (c .before .word .ensures) (sym (list-whole (start .args .s .now) (omega (arith, c .before .word .ensures, at-if1 .if1 .left, c .if2 .left))))
 
 pub read-list-spec : {M : Type 1} → statement M
 read-list-spec =

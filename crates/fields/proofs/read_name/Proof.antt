@@ -22,7 +22,9 @@ returns-2 : tie.Need-returns-2
 returns-2 c = sym (name-short (c .before .before .before .before .before .args .s .now) (omega (arith, c .before .wide .ensures, c .if2 .taken)))
 
 returns-3 : tie.Need-returns-3
-returns-3 c = rw (c .before .wide .ensures) (sym (name-whole (c .before .before .before .before .before .args .s .now) (omega (arith, c .before .wide .ensures, c .before .before .before .if1 .left, c .if2 .left))))
+returns-3 c =
+    let start = c .before .before .before .before .before in
+    rw (c .before .wide .ensures) (sym (name-whole (start .args .s .now) (omega (arith, c .before .wide .ensures, c .before .before .before .if1 .left, c .if2 .left))))
 
 pub read-name-spec : {M : Type 1} → statement M
 read-name-spec =

@@ -30,12 +30,17 @@ front-span-requires : tie.Need-front-span-requires
 front-span-requires c κs = search needs
 
 spans : (c : tie.After-front-span) → 1 + c .front-span .result ≡ testSpan (c .before .before .before .before .before .before .args .s .now)
-spans c = test-on (c .before .before .before .before .before .before .args .s .now) (c .before .before .before .before .read-flag .ensures) (c .before .before .enum-told2 .given .1) (c .front-span .ensures)
+spans c =
+    let at-read-flag = c .before .before .before .before in
+    let start = at-read-flag .before .before in
+    test-on (start .args .s .now) (at-read-flag .read-flag .ensures) (c .before .before .enum-told2 .given .1) (c .front-span .ensures)
 
 add-result : tie.Need-add-result
 add-result c =
-    let a = c .before .before .before .before .before .before .args in
-    omega (arith, test-fits (a .s .now) (on-fits (a .s .now) (c .before .before .before .before .read-flag .ensures) (c .before .before .enum-told2 .given .1)) (spans c))
+    let at-read-flag = c .before .before .before .before in
+    let start = at-read-flag .before .before in
+    let a = start .args in
+    omega (arith, test-fits (a .s .now) (on-fits (a .s .now) (at-read-flag .read-flag .ensures) (c .before .before .enum-told2 .given .1)) (spans c))
 
 enum-told-3 : tie.Need-enum-told-3
 enum-told-3 c = search needs

@@ -35,7 +35,11 @@ same-length : (t : ℕ) → put-digits-lts.Need-same-length (uses t) (put-digits
 same-length t c = search needs
 
 returns-2 : (t : ℕ) → put-digits-lts.Need-returns-2 (uses t) (put-digits-at t) put-digits.Post
-returns-2 t c = (rw (digits-one (c .before .before .before .before .before .before .before .args .k) (c .before .before .before .before .before .before .before .args .n) (c .before .before .before .before .before .if1 .left) (c .before .before .before .before .if2 .taken)) (c .before .before .put-digit .ensures), omega (arith, c .before .before .put-digit .ensures .ends))
+returns-2 t c =
+    let at-if2 = c .before .before .before .before in
+    let at-if1 = at-if2 .before in
+    let start = at-if1 .before .before in
+    (rw (digits-one (start .args .k) (start .args .n) (at-if1 .if1 .left) (at-if2 .if2 .taken)) (c .before .before .put-digit .ensures), omega (arith, c .before .before .put-digit .ensures .ends))
 
 sub-put-digits : (t : ℕ) → put-digits-lts.Need-sub-put-digits (uses t) (put-digits-at t) put-digits.Post
 sub-put-digits t c = search needs
@@ -50,7 +54,12 @@ same-length-2 : (t : ℕ) → put-digits-lts.Need-same-length-2 (uses t) (put-di
 same-length-2 t c = search needs
 
 returns-3 : (t : ℕ) → put-digits-lts.Need-returns-3 (uses t) (put-digits-at t) put-digits.Post
-returns-3 t c = (rw (digits-more (c .before .before .before .before .before .before .before .before .before .before .before .args .k) (c .before .before .before .before .before .before .before .before .before .before .before .args .n) (c .before .before .before .before .before .before .before .before .before .if1 .left) (c .before .before .before .before .before .before .before .before .if2 .left)) (wrote-then (c .before .before .before .before .before .before .put-digits .ensures .0) (omega (arith, c .before .before .before .before .before .before .put-digits .ensures .0 .ends, c .before .before .before .before .before .before .put-digits .ensures .1)) (c .before .before .put-digit2 .ensures)), omega (arith, c .before .before .put-digit2 .ensures .ends, c .before .before .before .before .before .before .put-digits .ensures .1))
+returns-3 t c =
+    let at-put-digits = c .before .before .before .before .before .before in
+    let at-if2 = at-put-digits .before .before in
+    let at-if1 = at-if2 .before in
+    let start = at-if1 .before .before in
+    (rw (digits-more (start .args .k) (start .args .n) (at-if1 .if1 .left) (at-if2 .if2 .left)) (wrote-then (at-put-digits .put-digits .ensures .0) (omega (arith, at-put-digits .put-digits .ensures .0 .ends, at-put-digits .put-digits .ensures .1)) (c .before .before .put-digit2 .ensures)), omega (arith, c .before .before .put-digit2 .ensures .ends, at-put-digits .put-digits .ensures .1))
 
 pub +put-digits-spec : {M : Type 1} → statement M
 +put-digits-spec = close μ-put-digits (λ t. put-digits-lts.spec (uses t) (put-digits-at t) put-digits.Post (returns t) (put-digit-requires t) (same-length t) (returns-2 t) (sub-put-digits t) (put-digits-requires t) (put-digit-requires-2 t) (same-length-2 t) (returns-3 t))

@@ -10,11 +10,18 @@ returns c = rw (c .before .before .before .before .before .enum-told .given .1) 
 
 returns-2 : tie.Need-returns-2
 unfolding lineOf
-returns-2 c = rw (c .before .before .before .before .before .before .before .answer .given .1, ← c .before .before .before .before .before .rule-number .ensures, ← c .before .before .before .before .wide .ensures) (c .before .before .breach-line .ensures)
+returns-2 c =
+    let at-wide = c .before .before .before .before in
+    let at-rule-number = at-wide .before in
+    let at-answer = at-rule-number .before .before in
+    rw (at-answer .answer .given .1, ← at-rule-number .rule-number .ensures, ← at-wide .wide .ensures) (c .before .before .breach-line .ensures)
 
 returns-3 : tie.Need-returns-3
 unfolding lineOf
-returns-3 c = rw (c .before .before .before .before .before .before .answer2 .given .1, ← c .before .before .before .before .refusal-number .ensures) (c .before .before .refused-line .ensures)
+returns-3 c =
+    let at-refusal-number = c .before .before .before .before in
+    let at-answer2 = at-refusal-number .before .before in
+    rw (at-answer2 .answer2 .given .1, ← at-refusal-number .refusal-number .ensures) (c .before .before .refused-line .ensures)
 
 returns-4 : tie.Need-returns-4
 unfolding lineOf

@@ -7,9 +7,12 @@ use Rattle.lines.proofs.refused_line.Tie as tie
 
 returns : tie.Need-returns
 returns c =
-    let fits = c .before .before .before .before .before .before .before .before .before .before .before .before .before .before .before .pre in
-    wrote-then (c .before .before .before .before .before .before .before .before .before .before .before .put .ensures) (omega arith)
-    (wrote-then (c .before .before .before .before .before .before .before .put-digits .ensures .0) (omega (arith, c .before .before .before .before .before .before .before .put-digits .ensures .0 .ends, c .before .before .before .before .before .before .before .put-digits .ensures .1))
+    let at-put-digits = c .before .before .before .before .before .before .before in
+    let at-put = at-put-digits .before .before .before .before in
+    let start = at-put .before .before .before .before in
+    let fits = start .pre in
+    wrote-then (at-put .put .ensures) (omega arith)
+    (wrote-then (at-put-digits .put-digits .ensures .0) (omega (arith, at-put-digits .put-digits .ensures .0 .ends, at-put-digits .put-digits .ensures .1))
     (c .before .before .put2 .ensures))
 
 pub refused-line-spec : {M : Type 1} → statement M

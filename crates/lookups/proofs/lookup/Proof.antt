@@ -17,12 +17,16 @@ enum-known-opened-2 : tie.Need-enum-known-opened-2
 enum-known-opened-2 c = search needs
 
 mul-if1 : tie.Need-mul-if1
-mul-if1 c = let g = readable (c .before .before .before .before .before .before .before .before .args .file .now) (c .before .before .opened2 .given .0 .0) (c .before .before .before .before .read .ensures) (c .before .before .opened2 .given .1) .order in omega arith
+mul-if1 c =
+    let at-read = c .before .before .before .before in
+    let start = at-read .before .before .before .before in
+    let g = readable (start .args .file .now) (c .before .before .opened2 .given .0 .0) (at-read .read .ensures) (c .before .before .opened2 .given .1) .order in omega arith
 
 returns : tie.Need-returns
 returns c =
-    let start = c .before .before .before .before .before .before .before .before .before in
-    let read = c .before .before .before .before .before .read in
+    let at-read = c .before .before .before .before .before in
+    let start = at-read .before .before .before .before in
+    let read = at-read .read in
     let opened2 = c .before .before .before .opened2 in
     looked-short (start .args .file .now) (start .args .index .now) (start .args .target .now) (read .ensures) (opened2 .given .0 .0) (opened2 .given .1) (c .if1 .taken)
 
@@ -30,13 +34,18 @@ slice-aggregate-write-index : tie.Need-slice-aggregate-write-index
 slice-aggregate-write-index c = search needs
 
 write-index-requires : tie.Need-write-index-requires
-write-index-requires c κs = (sym (c .before .before .before .before .before .before .before .read .ensures) ∙ c .before .before .before .before .before .opened2 .given .1, search needs)
+write-index-requires c κs =
+    let at-opened2 = c .before .before .before .before .before in
+    let at-read = at-opened2 .before .before in
+    (sym (at-read .read .ensures) ∙ at-opened2 .opened2 .given .1, search needs)
 
 lookup-target-requires : tie.Need-lookup-target-requires
 lookup-target-requires c κs =
-    let start = c .before .before .before .before .before .before .before .before .before .before .before .before .before .before .before .before in
-    let read = c .before .before .before .before .before .before .before .before .before .before .before .before .read in
-    let opened2 = c .before .before .before .before .before .before .before .before .before .before .opened2 in
+    let at-opened2 = c .before .before .before .before .before .before .before .before .before .before in
+    let at-read = at-opened2 .before .before in
+    let start = at-read .before .before .before .before in
+    let read = at-read .read in
+    let opened2 = at-opened2 .opened2 in
     readable (start .args .file .now) (opened2 .given .0 .0) (read .ensures) (opened2 .given .1) .order
 
 returns-2 : tie.Need-returns-2
@@ -50,11 +59,15 @@ same-length c = search needs
 
 returns-3 : tie.Need-returns-3
 returns-3 c =
-    let start = c .before .before .before .before .before .before .before .before .before .before .before .before .before .before .before .before .before in
-    let read = c .before .before .before .before .before .before .before .before .before .before .before .before .before .read in
-    let opened2 = c .before .before .before .before .before .before .before .before .before .before .before .opened2 in
-    let if1 = c .before .before .before .before .before .before .before .before .if1 in
-    let write-index = c .before .before .before .before .before .write-index in
+    let at-write-index = c .before .before .before .before .before in
+    let at-if1 = at-write-index .before .before .before in
+    let at-opened2 = at-if1 .before .before .before in
+    let at-read = at-opened2 .before .before in
+    let start = at-read .before .before .before .before in
+    let read = at-read .read in
+    let opened2 = at-opened2 .opened2 in
+    let if1 = at-if1 .if1 in
+    let write-index = at-write-index .write-index in
     looked-up (start .args .file .now) (start .args .index .now) (start .args .target .now) (read .ensures) (opened2 .given .0 .0) (opened2 .given .1) (omega (arith, if1 .left)) (write-index .ensures) (c .lookup-target .ensures)
 
 pub lookup-spec : {M : Type 1} → statement M

@@ -25,14 +25,19 @@ enum-known-ending c = search needs
 
 returns-2 : tie.Need-returns-2
 unfolding entryOf endingOf
-returns-2 c = rw (← c .before .before .before .before .before .before .find-exact .ensures, c .before .before .before .before .enum-told .given .1, ← c .before .before .before .find-ending .ensures, c .before .ending .given .1)
+returns-2 c =
+    let at-enum-told = c .before .before .before .before in
+    let at-find-exact = at-enum-told .before .before in
+    rw (← at-find-exact .find-exact .ensures, at-enum-told .enum-told .given .1, ← c .before .before .before .find-ending .ensures, c .before .ending .given .1)
 
 enum-told-2 : tie.Need-enum-told-2
 enum-told-2 c = search needs
 
 returns-3 : tie.Need-returns-3
 unfolding entryOf endingOf
-returns-3 c = rw (← c .before .before .before .before .before .find-exact .ensures, c .before .before .before .enum-told .given .1, ← c .before .before .find-ending .ensures, c .enum-told2 .given .1)
+returns-3 c =
+    let at-find-exact = c .before .before .before .before .before in
+    rw (← at-find-exact .find-exact .ensures, c .before .before .before .enum-told .given .1, ← c .before .before .find-ending .ensures, c .enum-told2 .given .1)
 
 pub lookup-entry-spec : {M : Type 1} → statement M
 lookup-entry-spec =

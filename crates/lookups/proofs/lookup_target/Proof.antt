@@ -27,8 +27,9 @@ is-function-name-requires c κs = search needs
 returns-2 : tie.Need-returns-2
 unfolding targetOf
 returns-2 c =
-    let start = c .before .before .before .before .before .before .before .before in
-    let passes = c .before .before .before .before .passes in
+    let at-passes = c .before .before .before .before in
+    let start = at-passes .before .before .before .before in
+    let passes = at-passes .passes in
     let if1 = c .before .before .before .if1 in
     rw (← passes .ensures, if1 .left, ← function-answer (start .args .c) (start .args .file .now) (start .args .target .now) (c .before .is-function-name .ensures), c .if2 .taken)
 
@@ -38,9 +39,11 @@ is-reserved-requires c κs = search needs
 returns-3 : tie.Need-returns-3
 unfolding targetOf
 returns-3 c =
-    let start = c .before .before .before .before .before .before .before .before .before .before in
-    let passes = c .before .before .before .before .before .before .passes in
-    let if1 = c .before .before .before .before .before .if1 in
+    let at-if1 = c .before .before .before .before .before in
+    let at-passes = at-if1 .before in
+    let start = at-passes .before .before .before .before in
+    let passes = at-passes .passes in
+    let if1 = at-if1 .if1 in
     let is-function-name = c .before .before .before .is-function-name in
     rw (← passes .ensures, if1 .left, ← function-answer (start .args .c) (start .args .file .now) (start .args .target .now) (is-function-name .ensures), c .before .before .if2 .left, ← c .before .is-reserved .ensures, c .if3 .taken)
 
@@ -50,10 +53,13 @@ lookup-entry-requires c κs = search needs
 returns-4 : tie.Need-returns-4
 unfolding targetOf
 returns-4 c =
-    let start = c .before .before .before .before .before .before .before .before .before .before .before in
-    let passes = c .before .before .before .before .before .before .before .passes in
-    let if1 = c .before .before .before .before .before .before .if1 in
-    let is-function-name = c .before .before .before .before .is-function-name in
+    let at-is-function-name = c .before .before .before .before in
+    let at-if1 = at-is-function-name .before .before in
+    let at-passes = at-if1 .before in
+    let start = at-passes .before .before .before .before in
+    let passes = at-passes .passes in
+    let if1 = at-if1 .if1 in
+    let is-function-name = at-is-function-name .is-function-name in
     let if2 = c .before .before .before .if2 in
     rw (← passes .ensures, if1 .left, ← function-answer (start .args .c) (start .args .file .now) (start .args .target .now) (is-function-name .ensures), if2 .left, ← c .before .before .is-reserved .ensures, c .before .if3 .left) (c .lookup-entry .ensures)
 

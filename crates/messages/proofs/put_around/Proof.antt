@@ -7,8 +7,11 @@ use Rattle.messages.proofs.put_around.Tie as tie
 
 returns : tie.Need-returns
 returns c =
-    wrote-then (c .before .before .before .before .before .before .before .before .before .before .put .ensures) (omega (arith, c .before .before .before .before .before .before .before .before .before .before .before .before .before .before .before .before .pre))
-    (wrote-then (c .before .before .before .before .before .before .put2 .ensures) (omega arith) (c .before .before .put3 .ensures))
+    let at-put2 = c .before .before .before .before .before .before in
+    let at-put = at-put2 .before .before .before .before in
+    let start = at-put .before .before .before .before .before .before in
+    wrote-then (at-put .put .ensures) (omega (arith, start .pre))
+    (wrote-then (at-put2 .put2 .ensures) (omega arith) (c .before .before .put3 .ensures))
 
 pub put-around-spec : {M : Type 1} → statement M
 put-around-spec =

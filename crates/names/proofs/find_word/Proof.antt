@@ -84,10 +84,11 @@ words-less c = simp (length-take, length-drop) (omega (arith, front-fits (front 
 
 words-again : tie.Need-words-again Inv-bytes μ-bytes Inv-words μ-words
 words-again c =
+    let start = c .before .before .before .before .before .before .before in
     front-next (front (c .before .before))
     (⊎-elim
     (λ w. agree-stop (w .1 .inv .1) (omega arith) (omega arith) (w .5 .taken))
-    (λ w. same-lengths (c .before .before .before .before .before .before .before .args .name .now) (c .before .before .name-at .result .now) (λ e. w .left (sym e)))
+    (λ w. same-lengths (start .args .name .now) (c .before .before .name-at .result .now) (λ e. w .left (sym e)))
     (c .before .if2 .came))
 
 returns : tie.Need-returns Inv-bytes μ-bytes Inv-words μ-words

@@ -32,7 +32,10 @@ same-name-requires-3 : tie.Need-same-name-requires-3
 same-name-requires-3 c κs = search needs
 
 returns-3 : tie.Need-returns-3
-returns-3 c = or-passed (c .before .before .before .before .before .before .same-name .ensures) (c .before .before .before .before .before .if1 .left)
+returns-3 c =
+    let at-if1 = c .before .before .before .before .before in
+    let at-same-name = at-if1 .before in
+    or-passed (at-same-name .same-name .ensures) (at-if1 .if1 .left)
     (or-passed (c .before .before .before .same-name2 .ensures) (c .before .before .if2 .left)
     (c .same-name3 .ensures ∙ sym (or-false _)))
 

@@ -14,14 +14,20 @@ cast-put-four c =
     omega (arith, lookup-refusal-fits (start .args .answer) (start .args .entries) (start .pre .1) (answer .given .1) (c .refusal-number .ensures))
 
 cast-put-four-2 : tie.Need-cast-put-four-2
-cast-put-four-2 c = omega (arith, exact-fits (c .before .before .before .before .before .args .answer) (c .before .before .before .before .before .args .entries) (c .before .before .before .before .before .pre .1) (c .before .before .answer2 .given .1))
+cast-put-four-2 c =
+    let start = c .before .before .before .before .before in
+    omega (arith, exact-fits (start .args .answer) (start .args .entries) (start .pre .1) (c .before .before .answer2 .given .1))
 
 cast-put-four-3 : tie.Need-cast-put-four-3
-cast-put-four-3 c = omega (arith, ending-fits (c .before .before .before .before .before .args .answer) (c .before .before .before .before .before .args .entries) (c .before .before .before .before .before .pre .1) (c .before .before .answer3 .given .1))
+cast-put-four-3 c =
+    let start = c .before .before .before .before .before in
+    omega (arith, ending-fits (start .args .answer) (start .args .entries) (start .pre .1) (c .before .before .answer3 .given .1))
 
 returns : tie.Need-returns
 unfolding lookupNumbers refusalOf answerNumber entryNumber
-returns c = rw (c .before .before .before .before .before .before .answer .given .1, ← c .before .before .before .refusal-number .ensures) (c .before .before .put-four .ensures)
+returns c =
+    let at-answer = c .before .before .before .before .before .before in
+    rw (at-answer .answer .given .1, ← c .before .before .before .refusal-number .ensures) (c .before .before .put-four .ensures)
 
 returns-2 : tie.Need-returns-2
 unfolding lookupNumbers refusalOf answerNumber entryNumber

@@ -10,10 +10,16 @@ returns : tie.Need-returns
 returns c = call-refused (omega (arith, c .if1 .taken))
 
 put-check-requires : tie.Need-put-check-requires
-put-check-requires c κs = (search needs, checked-narrow (λ i. c .before .before .before .before .before .before .before .before .before .before .before .before .shared-slice-known .given i .fits) (c .before .before .before .before .before .check .ensures))
+put-check-requires c κs =
+    let at-check = c .before .before .before .before .before in
+    let at-shared-slice-known = at-check .before .before .before .before .before .before .before in
+    (search needs, checked-narrow (λ i. at-shared-slice-known .shared-slice-known .given i .fits) (at-check .check .ensures))
 
 returns-2 : tie.Need-returns-2
-returns-2 c = call-answered (c .before .before .before .before .before .before .before .before .before .before .before .if1 .left) (c .before .before .before .before .before .before .before .before .check .ensures) (c .before .before .put-check .ensures)
+returns-2 c =
+    let at-check = c .before .before .before .before .before .before .before .before in
+    let at-if1 = at-check .before .before .before in
+    call-answered (at-if1 .if1 .left) (at-check .check .ensures) (c .before .before .put-check .ensures)
 
 pub qaabireed-check-spec : {M : Type 1} → statement M
 qaabireed-check-spec =

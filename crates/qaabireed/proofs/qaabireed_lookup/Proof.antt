@@ -16,7 +16,10 @@ put-lookup-requires : tie.Need-put-lookup-requires
 put-lookup-requires c κs = (search needs, looked-narrow (c .before .before .before .lookup .ensures))
 
 returns-2 : tie.Need-returns-2
-returns-2 c = lookup-answered (c .before .before .before .before .before .before .before .before .if1 .left) (c .before .before .before .before .before .before .lookup .ensures) (c .before .before .put-lookup .ensures)
+returns-2 c =
+    let at-lookup = c .before .before .before .before .before .before in
+    let at-if1 = at-lookup .before .before in
+    lookup-answered (at-if1 .if1 .left) (at-lookup .lookup .ensures) (c .before .before .put-lookup .ensures)
 
 pub qaabireed-lookup-spec : {M : Type 1} → statement M
 qaabireed-lookup-spec =

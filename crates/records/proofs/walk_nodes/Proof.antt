@@ -15,8 +15,9 @@ same-length c = search needs
 returns : tie.Need-returns
 unfolding nodes
 returns c =
-    let a = c .before .before .before .before .before .before .args in
-    walked-nodes (a .s .now) (a .base) (a .skip) (omega (arith, c .before .before .before .before .before .before .pre)) (c .before .before .list .ensures)
+    let start = c .before .before .before .before .before .before in
+    let a = start .args in
+    walked-nodes (a .s .now) (a .base) (a .skip) (omega (arith, start .pre)) (c .before .before .list .ensures)
 
 pub walk-nodes-spec : {M : Type 1} → statement M
 walk-nodes-spec = tie.close (tie.spec list-requires same-length returns)

@@ -13,7 +13,8 @@ cast-many c = omega (arith, c .shared-slice-known3 .given 0)
 
 returns-2 : tie.Need-returns-2
 returns-2 c =
-    counted-some (c .before .before .before .before .before .before .args .name .now) (c .before .before .before .before .before .before .args .s .now)
+    let start = c .before .before .before .before .before .before in
+    counted-some (start .args .name .now) (start .args .s .now)
     (c .names-have .ensures)
 
 pub counted-has-name-spec : {M : Type 1} → statement M

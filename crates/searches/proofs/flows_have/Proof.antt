@@ -49,10 +49,13 @@ part-is-called-end c = omega (arith, fits c)
 
 returns-2 : tie.Need-returns-2 Inv-loop μ-loop
 returns-2 c =
-    let start = c .before .before .before .before .before .before .before .before .before .before in
-    let loop = c .before .before .before .before .before .before .before .loop in
-    let read-list = c .before .before .before .before .before .before .read-list in
-    let n = c .before .before .before .before .n in
+    let at-n = c .before .before .before .before in
+    let at-read-list = at-n .before .before in
+    let at-loop = at-read-list .before in
+    let start = at-loop .before .before .before in
+    let loop = at-loop .loop in
+    let read-list = at-read-list .read-list in
+    let n = at-n .n in
     rw (loop .inv .1)
     (flow-found (start .args .function) (start .args .name .now) (loop .t .now) (n .given .0 .0) (read-list .ensures) (n .given .1) (c .before .is-called .ensures) (c .if1 .taken))
 
@@ -70,11 +73,15 @@ loop-less c = simp (length-take, length-drop) (omega (arith, fits (c .before .be
 
 loop-again : tie.Need-loop-again Inv-loop μ-loop
 loop-again c =
-    let start = c .before .before .before .before .before .before .before .before .before .before .before in
-    let loop = c .before .before .before .before .before .before .before .before .loop in
-    let read-list = c .before .before .before .before .before .before .before .read-list in
-    let n = c .before .before .before .before .before .n in (
-      simp (length-take, length-drop) (omega (arith, fits (c .before .before .before .before), loop .inv .0)),
+    let back-4 = c .before .before .before .before in
+    let at-n = back-4 .before in
+    let at-read-list = at-n .before .before in
+    let at-loop = at-read-list .before in
+    let start = at-loop .before .before .before in
+    let loop = at-loop .loop in
+    let read-list = at-read-list .read-list in
+    let n = at-n .n in (
+      simp (length-take, length-drop) (omega (arith, fits (back-4), loop .inv .0)),
       loop .inv .1
           ∙ flow-passed (start .args .function) (start .args .name .now) (loop .t .now) (n .given .0 .0) (read-list .ensures) (n .given .1) (c .before .before .is-called .ensures) (c .before .if1 .left),
     )

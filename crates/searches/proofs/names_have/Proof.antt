@@ -26,19 +26,23 @@ loop-holds c = refl
 
 returns : tie.Need-returns Inv-loop μ-loop
 returns c =
-    rw (c .before .before .loop .inv) (nothing-left (c .before .before .before .before .before .args .name .now) (c .before .before .loop .left) (c .before .before .loop .t .now) (c .if1 .taken))
+    let start = c .before .before .before .before .before in
+    rw (c .before .before .loop .inv) (nothing-left (start .args .name .now) (c .before .before .loop .left) (c .before .before .loop .t .now) (c .if1 .taken))
 
 returns-2 : tie.Need-returns-2 Inv-loop μ-loop
 returns-2 c =
-    let start = c .before .before .before .before .before .before .before .before in
-    let loop = c .before .before .before .before .before .loop in
+    let at-loop = c .before .before .before .before .before in
+    let start = at-loop .before .before .before in
+    let loop = at-loop .loop in
     let if1 = c .before .before .before .if1 in
     rw (loop .inv)
     (front-found (start .args .name .now) (loop .left) (loop .t .now) (omega arith) (if1 .left) (c .before .before .name-at .ensures) (c .before .same-name .ensures) (c .if2 .taken))
 
 -- the name lies within what is left
 fits : (c : lts.Else2 (name-at-reads.Asked, name-at-reads.Learnt, same-name-reads.Asked, same-name-reads.Learnt) reads.Pre reads.Post Inv-loop μ-loop) → 1 + length (c .before .before .name-at .result .now) ≤ length (c .before .before .before .before .before .loop .t .now)
-fits c = front-fits (c .before .before .before .before .before .loop .t .now) (c .before .before .before .if1 .left) (c .before .before .name-at .ensures)
+fits c =
+    let at-loop = c .before .before .before .before .before in
+    front-fits (at-loop .loop .t .now) (c .before .before .before .if1 .left) (c .before .before .name-at .ensures)
 
 add-e : tie.Need-add-e Inv-loop μ-loop
 add-e c = omega (arith, fits c)
@@ -54,9 +58,11 @@ part-t-end c = omega (arith, fits c)
 
 loop-again : tie.Need-loop-again Inv-loop μ-loop
 loop-again c =
-    let start = c .before .before .before .before .before .before .before .before .before in
-    let loop = c .before .before .before .before .before .before .loop in
-    let if1 = c .before .before .before .before .if1 in
+    let at-if1 = c .before .before .before .before in
+    let at-loop = at-if1 .before .before in
+    let start = at-loop .before .before .before in
+    let loop = at-loop .loop in
+    let if1 = at-if1 .if1 in
     let name-at = c .before .before .before .name-at in
     loop .inv ∙ front-passed (start .args .name .now) (loop .left) (loop .t .now) (omega arith) (if1 .left) (name-at .ensures) (c .before .before .same-name .ensures) (c .before .if2 .left)
 

@@ -5,24 +5,30 @@ use Rattle.story.proofs.read.Statement.{statement}
 use Rattle.story.proofs.read.Tie as tie
 
 read-sections-requires : tie.Need-read-sections-requires
-read-sections-requires c κs = opened-in-order (c .before .before .before .before .before .args .file .now) (c .before .opened2 .given .0 .0) (c .before .before .before .read-trailer .ensures) (c .before .opened2 .given .1)
+read-sections-requires c κs =
+    let start = c .before .before .before .before .before in
+    opened-in-order (start .args .file .now) (c .before .opened2 .given .0 .0) (c .before .before .before .read-trailer .ensures) (c .before .opened2 .given .1)
 
 returns : tie.Need-returns
 returns c = read-closed (c .before .before .before .before .before .args .file .now) (c .before .before .before .read-trailer .ensures) (c .before .opened .given .1)
 
 returns-2 : tie.Need-returns-2
 returns-2 c =
-    let start = c .before .before .before .before .before .before .before .before .before in
-    let read-trailer = c .before .before .before .before .before .before .before .read-trailer in
-    let opened2 = c .before .before .before .before .before .opened2 in
+    let at-opened2 = c .before .before .before .before .before in
+    let at-read-trailer = at-opened2 .before .before in
+    let start = at-read-trailer .before .before in
+    let read-trailer = at-read-trailer .read-trailer in
+    let opened2 = at-opened2 .opened2 in
     let read-sections = c .before .before .before .read-sections in
     read-refused (start .args .file .now) (opened2 .given .0 .0) (read-trailer .ensures) (opened2 .given .1) (read-sections .ensures) (c .before .ended .given .1)
 
 returns-3 : tie.Need-returns-3
 returns-3 c =
-    let start = c .before .before .before .before .before .before .before .before in
-    let read-trailer = c .before .before .before .before .before .before .read-trailer in
-    let opened2 = c .before .before .before .before .opened2 in
+    let at-opened2 = c .before .before .before .before in
+    let at-read-trailer = at-opened2 .before .before in
+    let start = at-read-trailer .before .before in
+    let read-trailer = at-read-trailer .read-trailer in
+    let opened2 = at-opened2 .opened2 in
     read-well (start .args .file .now) (opened2 .given .0 .0) (read-trailer .ensures) (opened2 .given .1) (c .before .before .read-sections .ensures) (c .enum-told .given .1)
 
 pub read-spec : {M : Type 1} → statement M

@@ -11,14 +11,18 @@ use Rattle.story.proofs.read_sections.Tie as tie
 
 returns : tie.Need-returns
 unfolding part
-returns c = rw (sections-end (c .before .before .before .before .before .args .c) (c .before .before .before .before .before .args .file .now)) (other-then _ _ (c .before .before .read-names .ensures) (not-well (tagOf the-type) refl (c .before .before .read-names .result) (c .before .match .keys2)))
+returns c =
+    let start = c .before .before .before .before .before in
+    rw (sections-end (start .args .c) (start .args .file .now)) (other-then _ _ (c .before .before .read-names .ensures) (not-well (tagOf the-type) refl (c .before .before .read-names .result) (c .before .match .keys2)))
 
 returns-2 : tie.Need-returns-2
 unfolding part
 returns-2 c =
-    let start = c .before .before .before .before .before .before .before .before .before in
-    let read-names = c .before .before .before .before .before .before .read-names in
-    let enum-told = c .before .before .before .before .enum-told in
+    let at-enum-told = c .before .before .before .before in
+    let at-read-names = at-enum-told .before .before in
+    let start = at-read-names .before .before .before in
+    let read-names = at-read-names .read-names in
+    let enum-told = at-enum-told .enum-told in
     let read-names2 = c .before .before .read-names2 in
     rw (sections-end (start .args .c) (start .args .file .now), well-then _ _ (read-names .ensures) (enum-told .given .1))
     (other-then _ _ (read-names2 .ensures) (not-well (tagOf the-type) refl (read-names2 .result) (c .before .match2 .keys2)))
@@ -26,11 +30,15 @@ returns-2 c =
 returns-3 : tie.Need-returns-3
 unfolding part
 returns-3 c =
-    let start = c .before .before .before .before .before .before .before .before .before .before .before .before .before in
-    let read-names = c .before .before .before .before .before .before .before .before .before .before .read-names in
-    let enum-told = c .before .before .before .before .before .before .before .before .enum-told in
-    let read-names2 = c .before .before .before .before .before .before .read-names2 in
-    let enum-told3 = c .before .before .before .before .enum-told3 in
+    let at-enum-told3 = c .before .before .before .before in
+    let at-read-names2 = at-enum-told3 .before .before in
+    let at-enum-told = at-read-names2 .before .before in
+    let at-read-names = at-enum-told .before .before in
+    let start = at-read-names .before .before .before in
+    let read-names = at-read-names .read-names in
+    let enum-told = at-enum-told .enum-told in
+    let read-names2 = at-read-names2 .read-names2 in
+    let enum-told3 = at-enum-told3 .enum-told3 in
     let read-nodes = c .before .before .read-nodes in
     rw (sections-end (start .args .c) (start .args .file .now), well-then _ _ (read-names .ensures) (enum-told .given .1), well-then _ _ (read-names2 .ensures) (enum-told3 .given .1))
     (other-then _ _ (read-nodes .ensures) (not-well (tagOf the-type) refl (read-nodes .result) (c .before .match3 .keys2)))
@@ -38,12 +46,17 @@ returns-3 c =
 returns-4 : tie.Need-returns-4
 unfolding part
 returns-4 c =
-    let start = c .before .before .before .before .before .before .before .before .before .before .before .before .before .before .before in
-    let read-names = c .before .before .before .before .before .before .before .before .before .before .before .before .read-names in
-    let enum-told = c .before .before .before .before .before .before .before .before .before .before .enum-told in
-    let read-names2 = c .before .before .before .before .before .before .before .before .read-names2 in
-    let enum-told3 = c .before .before .before .before .before .before .enum-told3 in
-    let read-nodes = c .before .before .before .before .read-nodes in
+    let at-read-nodes = c .before .before .before .before in
+    let at-enum-told3 = at-read-nodes .before .before in
+    let at-read-names2 = at-enum-told3 .before .before in
+    let at-enum-told = at-read-names2 .before .before in
+    let at-read-names = at-enum-told .before .before in
+    let start = at-read-names .before .before .before in
+    let read-names = at-read-names .read-names in
+    let enum-told = at-enum-told .enum-told in
+    let read-names2 = at-read-names2 .read-names2 in
+    let enum-told3 = at-enum-told3 .enum-told3 in
+    let read-nodes = at-read-nodes .read-nodes in
     rw (sections-end (start .args .c) (start .args .file .now), well-then _ _ (read-names .ensures) (enum-told .given .1), well-then _ _ (read-names2 .ensures) (enum-told3 .given .1), well-then _ _ (read-nodes .ensures) (c .before .before .enum-told5 .given .1))
     (c .read-flows .ensures)
 

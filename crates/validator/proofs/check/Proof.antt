@@ -12,7 +12,11 @@ returns : tie.Need-returns
 returns c = unreadable (c .before .before .before .read .ensures) (c .before .opened .given .1)
 
 returns-2 : tie.Need-returns-2
-returns-2 c = opens (c .before .before .before .before .before .before .before .before .before .before .read .ensures) (c .before .before .before .before .before .before .before .before .opened2 .given .1) (c .before .before .before .before .check-readable .ensures)
+returns-2 c =
+    let at-check-readable = c .before .before .before .before in
+    let at-opened2 = at-check-readable .before .before .before .before in
+    let at-read = at-opened2 .before .before in
+    opens (at-read .read .ensures) (at-opened2 .opened2 .given .1) (at-check-readable .check-readable .ensures)
 
 pub check-spec : {M : Type 1} → statement M
 check-spec =

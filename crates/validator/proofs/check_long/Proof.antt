@@ -4,10 +4,14 @@ use Rattle.validator.proofs.check_long.Statement.{statement}
 use Rattle.validator.proofs.check_long.Tie as tie
 
 check-story-requires : tie.Need-check-story-requires
-check-story-requires c κs = (c .before .before .before .before .before .before .before .before .before .before .before .pre .0, (c .before .before .before .before .before .before .before .before .before .before .before .pre .1, search needs))
+check-story-requires c κs =
+    let start = c .before .before .before .before .before .before .before .before .before .before .before in
+    (start .pre .0, (start .pre .1, search needs))
 
 returns : tie.Need-returns
-returns c = c .before .before .before .before .before .before .before .before .before .before .check-story .ensures
+returns c =
+    let at-check-story = c .before .before .before .before .before .before .before .before .before .before in
+    at-check-story .check-story .ensures
 
 pub check-long-spec : {M : Type 1} → statement M
 check-long-spec =

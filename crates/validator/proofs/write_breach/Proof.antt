@@ -7,14 +7,19 @@ use Rattle.validator.proofs.write_breach.Tie as tie
 
 write-message-requires : tie.Need-write-message-requires
 write-message-requires c κs =
-    let args = c .before .before .before .before .before .args in
-    let bytes = c .before .before .before .before .shared-slice-known .given in (
+    let at-shared-slice-known = c .before .before .before .before in
+    let start = at-shared-slice-known .before in
+    let args = start .args in
+    let bytes = at-shared-slice-known .shared-slice-known .given in (
       name-fits (args .file .now) (args .first) (c .before .before .name-at .ensures) (bytes (args .first) .fits),
       (name-fits (args .file .now) (args .second) (c .before .name-at2 .ensures) (bytes (args .second) .fits), search needs),
     )
 
 returns : tie.Need-returns
-returns c = told _ _ (c .before .before .before .before .before .name-at .ensures) (c .before .before .before .before .name-at2 .ensures) (c .before .before .write-message .ensures)
+returns c =
+    let at-name-at2 = c .before .before .before .before in
+    let at-name-at = at-name-at2 .before in
+    told _ _ (at-name-at .name-at .ensures) (at-name-at2 .name-at2 .ensures) (c .before .before .write-message .ensures)
 
 pub write-breach-spec : {M : Type 1} → statement M
 write-breach-spec =

@@ -24,7 +24,9 @@ nodes-end-with-divert-requires c κs = search needs
 
 returns-2 : tie.Need-returns-2
 unfolding leaves
-returns-2 c = rw (item-leaves, ← c .before .before .before .before .sort-at .ensures, c .before .before .before .if1 .left, ← c .before .before .payload-at .ensures, ← c .before .choice-body .ensures) (c .nodes-end-with-divert .ensures)
+returns-2 c =
+    let at-sort-at = c .before .before .before .before in
+    rw (item-leaves, ← at-sort-at .sort-at .ensures, c .before .before .before .if1 .left, ← c .before .before .payload-at .ensures, ← c .before .choice-body .ensures) (c .nodes-end-with-divert .ensures)
 
 pub choice-has-explicit-divert-spec : {M : Type 1} → statement M
 choice-has-explicit-divert-spec =

@@ -23,7 +23,10 @@ part-result-end : tie.Need-part-result-end
 part-result-end c = search needs
 
 returns : tie.Need-returns
-returns c = item-nameless (c .before .before .before .before .before .before .args .file .now) (c .before .before .before .before .before .before .args .place) (c .before .before .before .before .before .before .args .tag) (c .before .before .before .before .payload-at .ensures)
+returns c =
+    let at-payload-at = c .before .before .before .before in
+    let start = at-payload-at .before .before in
+    item-nameless (start .args .file .now) (start .args .place) (start .args .tag) (at-payload-at .payload-at .ensures)
     (c .before .before .is-nameless .ensures _ (c .before .before .before .sort-at .ensures)) (c .before .if1 .taken)
 
 name-start-requires : tie.Need-name-start-requires
@@ -34,9 +37,11 @@ name-at-requires c κs = search needs
 
 returns-2 : tie.Need-returns-2
 returns-2 c =
-    let start = c .before .before .before .before .before .before .before in
-    let payload-at = c .before .before .before .before .before .payload-at in
-    let sort-at = c .before .before .before .before .sort-at in
+    let at-sort-at = c .before .before .before .before in
+    let at-payload-at = at-sort-at .before in
+    let start = at-payload-at .before .before in
+    let payload-at = at-payload-at .payload-at in
+    let sort-at = at-sort-at .sort-at in
     let is-nameless = c .before .before .before .is-nameless in
     item-named-there (start .args .file .now) (start .args .place) (start .args .tag) (payload-at .ensures)
     (is-nameless .ensures _ (sort-at .ensures)) (c .before .before .if1 .left) (c .before .name-start .ensures _ (sort-at .ensures)) (c .name-at .ensures)

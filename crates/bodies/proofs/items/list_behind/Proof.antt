@@ -28,13 +28,18 @@ returns : tie.Need-returns
 returns c = behind-cut (c .before .before .before .before .before .args .s .now) (c .before .before .before .read-list .ensures) (c .before .enum-told .given .1)
 
 add-tail : tie.Need-add-tail
-add-tail c = omega (arith, list-fits (c .before .before .before .before .before .args .s .now) (c .before .l .given .0 .0) (c .before .before .before .read-list .ensures) (c .before .l .given .1))
+add-tail c =
+    let start = c .before .before .before .before .before in
+    omega (arith, list-fits (start .args .s .now) (c .before .l .given .0 .0) (c .before .before .before .read-list .ensures) (c .before .l .given .1))
 
 tail-requires : tie.Need-tail-requires
 tail-requires c κs = search needs
 
 returns-2 : tie.Need-returns-2
-returns-2 c = behind-whole (c .before .before .before .before .before .before .args .s .now) (c .before .before .before .before .read-list .ensures) (c .before .before .l .given .1) (c .tail .ensures)
+returns-2 c =
+    let at-read-list = c .before .before .before .before in
+    let start = at-read-list .before .before in
+    behind-whole (start .args .s .now) (at-read-list .read-list .ensures) (c .before .before .l .given .1) (c .tail .ensures)
 
 pub list-behind-spec : {M : Type 1} → statement M
 list-behind-spec =

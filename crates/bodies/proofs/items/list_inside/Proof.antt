@@ -28,7 +28,9 @@ returns : tie.Need-returns
 returns c = inside-cut (c .before .before .before .before .before .args .s .now) (c .before .before .before .read-list .ensures) (c .before .enum-told .given .1)
 
 add-e : tie.Need-add-e
-add-e c = omega (arith, list-fits (c .before .before .before .before .before .args .s .now) (c .before .l .given .0 .0) (c .before .before .before .read-list .ensures) (c .before .l .given .1))
+add-e c =
+    let start = c .before .before .before .before .before in
+    omega (arith, list-fits (start .args .s .now) (c .before .l .given .0 .0) (c .before .before .before .read-list .ensures) (c .before .l .given .1))
 
 sub-result-2 : tie.Need-sub-result-2
 sub-result-2 c = search needs
@@ -37,10 +39,15 @@ part-result-start-2 : tie.Need-part-result-start-2
 part-result-start-2 c = search needs
 
 part-result-end-2 : tie.Need-part-result-end-2
-part-result-end-2 c = omega (arith, list-fits (c .before .before .before .before .before .args .s .now) (c .before .l .given .0 .0) (c .before .before .before .read-list .ensures) (c .before .l .given .1))
+part-result-end-2 c =
+    let start = c .before .before .before .before .before in
+    omega (arith, list-fits (start .args .s .now) (c .before .l .given .0 .0) (c .before .before .before .read-list .ensures) (c .before .l .given .1))
 
 returns-2 : tie.Need-returns-2
-returns-2 c = inside-whole (c .before .before .before .before .before .before .args .s .now) (c .before .before .before .before .read-list .ensures) (c .before .before .l .given .1)
+returns-2 c =
+    let at-read-list = c .before .before .before .before in
+    let start = at-read-list .before .before in
+    inside-whole (start .args .s .now) (at-read-list .read-list .ensures) (c .before .before .l .given .1)
 
 pub list-inside-spec : {M : Type 1} → statement M
 list-inside-spec =

@@ -30,7 +30,9 @@ abbrev bytes : Judged → List ℕ
 bytes c = c .before .before .before .before .before .loop .rest .now
 
 fits : (c : Judged) → span c ≤ length (bytes c)
-fits c = head-fits (bytes c) (c .before .before .h .given .0 .0) (c .before .before .h .given .0 .1 .0) (c .before .before .before .before .read-head .ensures) (c .before .before .h .given .1)
+fits c =
+    let at-read-head = c .before .before .before .before in
+    head-fits (bytes c) (c .before .before .h .given .0 .0) (c .before .before .h .given .0 .1 .0) (at-read-head .read-head .ensures) (c .before .before .h .given .1)
 
 loop-holds : tie.Need-loop-holds Inv-loop μ-loop
 loop-holds c = (search needs, left-start _)
@@ -66,10 +68,12 @@ loop-less : tie.Need-loop-less Inv-loop μ-loop
 loop-less c = omega (arith, fits (c .before), rest-length (span (c .before)) (bytes (c .before)))
 
 loop-again : tie.Need-loop-again Inv-loop μ-loop
-loop-again c = (
-  omega (arith, rest-length (span (c .before)) (bytes (c .before))),
-  left-next (c .before .before .before .before .before .before .loop .inv .1) (c .before .before .before .before .before .read-head .ensures) (c .before .before .before .h .given .1) (c .before .leaves-after .ensures),
-)
+loop-again c =
+    let at-read-head = c .before .before .before .before .before in
+    let at-loop = at-read-head .before in (
+      omega (arith, rest-length (span (c .before)) (bytes (c .before))),
+      left-next (at-loop .loop .inv .1) (at-read-head .read-head .ensures) (c .before .before .before .h .given .1) (c .before .leaves-after .ensures),
+    )
 
 pub nodes-end-with-divert-spec : {M : Type 1} → statement M
 nodes-end-with-divert-spec =

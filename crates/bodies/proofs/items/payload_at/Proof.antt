@@ -28,10 +28,15 @@ part-result-end : tie.Need-part-result-end
 part-result-end c = search needs
 
 returns : tie.Need-returns
-returns c = payload-cut (c .before .before .before .before .before .before .args .file .now) (c .before .before .before .before .before .before .args .place) (c .before .before .before .before .tail .ensures) (c .before .before .before .read-head .ensures) (c .before .enum-told .given .1)
+returns c =
+    let at-tail = c .before .before .before .before in
+    let start = at-tail .before .before in
+    payload-cut (start .args .file .now) (start .args .place) (at-tail .tail .ensures) (c .before .before .before .read-head .ensures) (c .before .enum-told .given .1)
 
 add-e : tie.Need-add-e
-add-e c = omega (arith, head-fits (c .before .before .before .before .tail .result .now) (c .before .h .given .0 .0) (c .before .h .given .0 .1 .0) (c .before .before .before .read-head .ensures) (c .before .h .given .1))
+add-e c =
+    let at-tail = c .before .before .before .before in
+    omega (arith, head-fits (at-tail .tail .result .now) (c .before .h .given .0 .0) (c .before .h .given .0 .1 .0) (c .before .before .before .read-head .ensures) (c .before .h .given .1))
 
 sub-result-2 : tie.Need-sub-result-2
 sub-result-2 c = search needs
@@ -40,13 +45,17 @@ part-result-start-2 : tie.Need-part-result-start-2
 part-result-start-2 c = search needs
 
 part-result-end-2 : tie.Need-part-result-end-2
-part-result-end-2 c = omega (arith, head-fits (c .before .before .before .before .tail .result .now) (c .before .h .given .0 .0) (c .before .h .given .0 .1 .0) (c .before .before .before .read-head .ensures) (c .before .h .given .1))
+part-result-end-2 c =
+    let at-tail = c .before .before .before .before in
+    omega (arith, head-fits (at-tail .tail .result .now) (c .before .h .given .0 .0) (c .before .h .given .0 .1 .0) (c .before .before .before .read-head .ensures) (c .before .h .given .1))
 
 returns-2 : tie.Need-returns-2
 returns-2 c =
-    let start = c .before .before .before .before .before .before .before in
-    let tail = c .before .before .before .before .before .tail in
-    let read-head = c .before .before .before .before .read-head in
+    let at-read-head = c .before .before .before .before in
+    let at-tail = at-read-head .before in
+    let start = at-tail .before .before in
+    let tail = at-tail .tail in
+    let read-head = at-read-head .read-head in
     payload-whole (start .args .file .now) (start .args .place) (tail .ensures) (read-head .ensures) (c .before .before .h .given .1)
 
 pub payload-at-spec : {M : Type 1} → statement M

@@ -55,7 +55,10 @@ same-length c = search needs
 
 returns : tie.Need-returns Inv-loop μ-loop
 unfolding foundAmong
-returns c = sym (passed-found (c .before .before .before .before .before .before .before .before .before .loop .inv .2) (omega arith) (fetched-item (c .before .before .before .before .before .before .fetch .ensures) (omega arith)) (c .before .bears-name .ensures) (c .if1 .taken))
+returns c =
+    let at-fetch = c .before .before .before .before .before .before in
+    let at-loop = at-fetch .before .before .before in
+    sym (passed-found (at-loop .loop .inv .2) (omega arith) (fetched-item (at-fetch .fetch .ensures) (omega arith)) (c .before .bears-name .ensures) (c .if1 .taken))
 
 add-i : tie.Need-add-i Inv-loop μ-loop
 add-i c = search needs
@@ -65,8 +68,10 @@ loop-less c = search needs
 
 loop-again : tie.Need-loop-again Inv-loop μ-loop
 loop-again c =
-    let loop = c .before .before .before .before .before .before .before .before .before .loop in
-    let fetch = c .before .before .before .before .before .before .fetch in
+    let at-fetch = c .before .before .before .before .before .before in
+    let at-loop = at-fetch .before .before .before in
+    let loop = at-loop .loop in
+    let fetch = at-fetch .fetch in
     (omega arith, fetch .ensures .window, passed-next (loop .inv .2) (omega arith) (fetched-item (fetch .ensures) (omega arith)) (c .before .bears-name .ensures) (c .if1 .left))
 
 same-length-2 : tie.Need-same-length-2 Inv-loop μ-loop

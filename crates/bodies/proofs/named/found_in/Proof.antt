@@ -9,15 +9,18 @@ count-items-requires : tie.Need-count-items-requires
 count-items-requires c κs = search needs
 
 found-before-requires : tie.Need-found-before-requires
-found-before-requires c κs = (c .before .before .before .before .before .before .before .before .pre .0, (c .before .before .before .count-items .ensures .window, omega arith))
+found-before-requires c κs =
+    let start = c .before .before .before .before .before .before .before .before in
+    (start .pre .0, (c .before .before .before .count-items .ensures .window, omega arith))
 
 same-length : tie.Need-same-length
 same-length c = search needs
 
 returns : tie.Need-returns
 returns c =
-    let start = c .before .before .before .before .before .before .before .before .before .before .before in
-    let count-items = c .before .before .before .before .before .before .count-items in
+    let at-count-items = c .before .before .before .before .before .before in
+    let start = at-count-items .before .before .before .before .before in
+    let count-items = at-count-items .count-items in
     found-all (start .args .sought) (start .args .name .now) (count-items .ensures) (c .before .before .found-before .ensures)
 
 pub found-in-spec : {M : Type 1} → statement M

@@ -11,7 +11,10 @@ count-items-requires : tie.Need-count-items-requires
 count-items-requires c κs = search needs
 
 found-before-requires : tie.Need-found-before-requires
-found-before-requires c κs = (c .before .before .before .before .before .before .before .before .before .pre .0, (c .before .before .before .before .count-items .ensures .window, omega arith))
+found-before-requires c κs =
+    let at-count-items = c .before .before .before .before in
+    let start = at-count-items .before .before .before .before .before in
+    (start .pre .0, (at-count-items .count-items .ensures .window, omega arith))
 
 same-length : tie.Need-same-length
 same-length c = search needs
@@ -21,7 +24,10 @@ unfolding ofSort bears foundAmong
 returns c = c .before .before .found-before .ensures
 
 found-before-requires-2 : tie.Need-found-before-requires-2
-found-before-requires-2 c κs = (c .before .before .before .before .before .before .before .before .before .pre .0, (c .before .before .before .before .count-items .ensures .window, omega arith))
+found-before-requires-2 c κs =
+    let at-count-items = c .before .before .before .before in
+    let start = at-count-items .before .before .before .before .before in
+    (start .pre .0, (at-count-items .count-items .ensures .window, omega arith))
 
 same-length-2 : tie.Need-same-length-2
 same-length-2 c = search needs
@@ -29,9 +35,11 @@ same-length-2 c = search needs
 returns-2 : tie.Need-returns-2
 unfolding ofSort bears foundAmong
 returns-2 c =
-    let start = c .before .before .before .before .before .before .before .before .before .before .before .before in
-    let count-items = c .before .before .before .before .before .before .before .count-items in
-    let if1 = c .before .before .before .before .if1 in
+    let at-if1 = c .before .before .before .before in
+    let at-count-items = at-if1 .before .before .before in
+    let start = at-count-items .before .before .before .before .before in
+    let count-items = at-count-items .count-items in
+    let if1 = at-if1 .if1 in
     found-more Gather (start .args .name .now) (count-items .ensures) (c .before .before .found-before2 .ensures) (start .args .i) (if1 .left)
 
 pub has-gather-before-spec : {M : Type 1} → statement M

@@ -27,9 +27,11 @@ same-length c = search needs
 
 returns : tie.Need-returns
 returns c =
-    let start = c .before .before .before .before .before .before .before .before .before in
-    let shared-slice-known = c .before .before .before .before .before .before .before .before .shared-slice-known in
-    let walk-nodes = c .before .before .before .before .walk-nodes in
+    let at-walk-nodes = c .before .before .before .before in
+    let at-shared-slice-known = at-walk-nodes .before .before .before .before in
+    let start = at-shared-slice-known .before in
+    let shared-slice-known = at-shared-slice-known .shared-slice-known in
+    let walk-nodes = at-walk-nodes .walk-nodes in
     counted-refused (start .args .file .now) (λ i. shared-slice-known .given i .fits) (start .args .from) (start .args .to) (walk-nodes .ensures) (c .enum-told .given .1)
 
 same-length-2 : tie.Need-same-length-2
@@ -37,9 +39,11 @@ same-length-2 c = search needs
 
 returns-2 : tie.Need-returns-2
 returns-2 c =
-    let start = c .before .before .before .before .before .before .before .before .before .before in
-    let shared-slice-known = c .before .before .before .before .before .before .before .before .before .shared-slice-known in
-    let walk-nodes = c .before .before .before .before .before .walk-nodes in
+    let at-walk-nodes = c .before .before .before .before .before in
+    let at-shared-slice-known = at-walk-nodes .before .before .before .before in
+    let start = at-shared-slice-known .before in
+    let shared-slice-known = at-shared-slice-known .shared-slice-known in
+    let walk-nodes = at-walk-nodes .walk-nodes in
     counted-well (start .args .file .now) (λ i. shared-slice-known .given i .fits) (start .args .from) (start .args .to) (walk-nodes .ensures) (c .before .answer .given .1)
 
 pub count-items-spec : {M : Type 1} → statement M

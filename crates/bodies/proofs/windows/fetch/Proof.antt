@@ -28,8 +28,9 @@ same-length c = search needs
 
 returns-2 : tie.Need-returns-2
 returns-2 c =
-    let start = c .before .before .before .before .before .before .before .before in
-    let shared-slice-known = c .before .before .before .before .before .before .before .shared-slice-known in
+    let at-shared-slice-known = c .before .before .before .before .before .before .before in
+    let start = at-shared-slice-known .before in
+    let shared-slice-known = at-shared-slice-known .shared-slice-known in
     fetched-at (start .args .file .now) (λ i. shared-slice-known .given i .fits) (start .args .from) (start .args .to) (start .args .i) (c .before .before .walk-nodes .ensures) (omega arith)
 
 pub fetch-spec : {M : Type 1} → statement M

@@ -14,26 +14,36 @@ returns-2 c = picked _ (or-found _ (or-passed (c .before .before .before .is-fun
 
 returns-3 : tie.Need-returns-3
 returns-3 c =
-    let is-function = c .before .before .before .before .before .is-function in
-    let if1 = c .before .before .before .before .if1 in
+    let at-if1 = c .before .before .before .before in
+    let at-is-function = at-if1 .before in
+    let is-function = at-is-function .is-function in
+    let if1 = at-if1 .if1 in
     let is-external = c .before .before .before .is-external in
     picked _ (or-passed (or-passed (is-function .ensures) (if1 .left) (is-external .ensures)) (c .before .before .if2 .left) (c .before .is-builtin-function .ensures)) (c .if3 .taken) refl
 
 returns-4 : tie.Need-returns-4
 returns-4 c =
-    let is-function = c .before .before .before .before .before .before .before .is-function in
-    let if1 = c .before .before .before .before .before .before .if1 in
-    let is-external = c .before .before .before .before .before .is-external in
-    let if2 = c .before .before .before .before .if2 in
+    let at-if2 = c .before .before .before .before in
+    let at-is-external = at-if2 .before in
+    let at-if1 = at-is-external .before in
+    let at-is-function = at-if1 .before in
+    let is-function = at-is-function .is-function in
+    let if1 = at-if1 .if1 in
+    let is-external = at-is-external .is-external in
+    let if2 = at-if2 .if2 in
     let is-builtin-function = c .before .before .before .is-builtin-function in
     passed _ (or-passed (or-passed (is-function .ensures) (if1 .left) (is-external .ensures)) (if2 .left) (is-builtin-function .ensures)) (c .before .before .if3 .left) (picked _ (c .before .is-flow .ensures) (c .if4 .taken) refl)
 
 returns-5 : tie.Need-returns-5
 returns-5 c =
-    let is-function = c .before .before .before .before .before .before .before .is-function in
-    let if1 = c .before .before .before .before .before .before .if1 in
-    let is-external = c .before .before .before .before .before .is-external in
-    let if2 = c .before .before .before .before .if2 in
+    let at-if2 = c .before .before .before .before in
+    let at-is-external = at-if2 .before in
+    let at-if1 = at-is-external .before in
+    let at-is-function = at-if1 .before in
+    let is-function = at-is-function .is-function in
+    let if1 = at-if1 .if1 in
+    let is-external = at-is-external .is-external in
+    let if2 = at-if2 .if2 in
     let is-builtin-function = c .before .before .before .is-builtin-function in
     passed _ (or-passed (or-passed (is-function .ensures) (if1 .left) (is-external .ensures)) (if2 .left) (is-builtin-function .ensures)) (c .before .before .if3 .left) (passed _ (c .before .is-flow .ensures) (c .if4 .left) refl)
 

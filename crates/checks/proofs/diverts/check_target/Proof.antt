@@ -12,10 +12,16 @@ returns-2 : tie.Need-returns-2
 returns-2 c = passed _ (c .before .before .before .passes .ensures) (c .before .before .if1 .left) (picked _ (c .before .is-function .ensures) (c .if2 .taken) refl)
 
 returns-3 : tie.Need-returns-3
-returns-3 c = passed _ (c .before .before .before .before .before .passes .ensures) (c .before .before .before .before .if1 .left) (passed _ (c .before .before .before .is-function .ensures) (c .before .before .if2 .left) (picked _ (c .before .is-target .ensures) (c .if3 .taken) refl))
+returns-3 c =
+    let at-if1 = c .before .before .before .before in
+    let at-passes = at-if1 .before in
+    passed _ (at-passes .passes .ensures) (at-if1 .if1 .left) (passed _ (c .before .before .before .is-function .ensures) (c .before .before .if2 .left) (picked _ (c .before .is-target .ensures) (c .if3 .taken) refl))
 
 returns-4 : tie.Need-returns-4
-returns-4 c = passed _ (c .before .before .before .before .before .passes .ensures) (c .before .before .before .before .if1 .left) (passed _ (c .before .before .before .is-function .ensures) (c .before .before .if2 .left) (passed _ (c .before .is-target .ensures) (c .if3 .left) refl))
+returns-4 c =
+    let at-if1 = c .before .before .before .before in
+    let at-passes = at-if1 .before in
+    passed _ (at-passes .passes .ensures) (at-if1 .if1 .left) (passed _ (c .before .before .before .is-function .ensures) (c .before .before .if2 .left) (passed _ (c .before .is-target .ensures) (c .if3 .left) refl))
 
 pub check-target-spec : {M : Type 1} → statement M
 check-target-spec =

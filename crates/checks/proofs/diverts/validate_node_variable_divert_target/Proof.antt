@@ -10,8 +10,10 @@ returns c k before = rw (variable-diverts-judged k _ before _) (picked _ (c .bef
 
 returns-2 : tie.Need-returns-2
 returns-2 c k before =
-    let has-target = c .before .before .before .before .before .has-target in
-    let if1 = c .before .before .before .before .if1 in
+    let at-if1 = c .before .before .before .before in
+    let at-has-target = at-if1 .before in
+    let has-target = at-has-target .has-target in
+    let if1 = at-if1 .if1 in
     let is-sort = c .before .before .before .is-sort in
     rw (variable-diverts-judged k _ before _) (passed _ (has-target .ensures) (if1 .left) (picked _ (is-sort .ensures) (c .before .before .if2 .taken) (rw (c .before .item-name2 .ensures) at (c .check-divert-target-arg .ensures))))
 

@@ -8,7 +8,9 @@ returns : tie.Need-returns
 returns c = target-reserved _ _ _ (c .before .is-reserved .ensures) (c .if1 .taken)
 
 returns-2 : tie.Need-returns-2
-returns-2 c = target-asked _ _ _ (c .before .before .is-reserved .ensures) (c .before .if1 .left) (c .before .before .before .before .before .before .before .before .pre) (c .find-target-in .ensures)
+returns-2 c =
+    let start = c .before .before .before .before .before .before .before .before in
+    target-asked _ _ _ (c .before .before .is-reserved .ensures) (c .before .if1 .left) (start .pre) (c .find-target-in .ensures)
 
 pub is-target-spec : {M : Type 1} → statement M
 is-target-spec =

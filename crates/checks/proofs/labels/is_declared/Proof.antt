@@ -10,9 +10,11 @@ returns c = or-found _ (counted-answer _ (c .before .before .before .before .bef
 
 returns-2 : tie.Need-returns-2
 returns-2 c =
-    let start = c .before .before .before .before .before .before .before .before .before .before in
-    let counted-has-name = c .before .before .before .before .before .counted-has-name in
-    let if1 = c .before .before .before .before .if1 in
+    let at-if1 = c .before .before .before .before in
+    let at-counted-has-name = at-if1 .before in
+    let start = at-counted-has-name .before .before .before .before .before in
+    let counted-has-name = at-counted-has-name .counted-has-name in
+    let if1 = at-if1 .if1 in
     or-passed (counted-answer _ (start .args .name .now) _ (counted-has-name .ensures)) (if1 .left) (c .before .before .body-has-temp .ensures)
 
 pub is-declared-spec : {M : Type 1} → statement M

@@ -6,7 +6,10 @@ use Rattle.checks.proofs.labels.is_forbidden.Tie as tie
 
 returns : tie.Need-returns
 unfolding hereAt
-returns c = rw (← c .before .before .before .before .before .before .before .is-declared .ensures, c .before .before .before .before .if1 .taken, ← c .before .before .is-declared2 .ensures)
+returns c =
+    let at-if1 = c .before .before .before .before in
+    let at-is-declared = at-if1 .before .before .before in
+    rw (← at-is-declared .is-declared .ensures, at-if1 .if1 .taken, ← c .before .before .is-declared2 .ensures)
 
 returns-2 : tie.Need-returns-2
 unfolding hereAt

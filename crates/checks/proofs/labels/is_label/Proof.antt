@@ -11,7 +11,10 @@ returns c = or-found _ (c .before .before .before .body-has-label .ensures) (c .
 
 returns-2 : tie.Need-returns-2
 unfolding hereAt
-returns-2 c = or-passed (c .before .before .before .before .before .before .before .body-has-label .ensures) (c .before .before .before .before .if1 .left) (c .before .before .is-stitch-label .ensures)
+returns-2 c =
+    let at-if1 = c .before .before .before .before in
+    let at-body-has-label = at-if1 .before .before .before in
+    or-passed (at-body-has-label .body-has-label .ensures) (at-if1 .if1 .left) (c .before .before .is-stitch-label .ensures)
 
 pub is-label-spec : {M : Type 1} → statement M
 is-label-spec =

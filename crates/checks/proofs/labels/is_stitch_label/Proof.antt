@@ -31,13 +31,17 @@ same-length : tie.Need-same-length Inv-loop μ-loop
 same-length c = c .before .before .before .loop .inv .1
 
 returns : tie.Need-returns Inv-loop μ-loop
-returns c = rw (c .before .before .before .loop .inv .2) (label-none _ _ _ (c .before .before .before .loop .inv .0) (c .before .before .stitch-view .ensures) (c .before .before .before .before .before .before .before .args .name .now) (c .enum-told .given .1))
+returns c =
+    let start = c .before .before .before .before .before .before .before in
+    rw (c .before .before .before .loop .inv .2) (label-none _ _ _ (c .before .before .before .loop .inv .0) (c .before .before .stitch-view .ensures) (start .args .name .now) (c .enum-told .given .1))
 
 body-has-label-requires : tie.Need-body-has-label-requires Inv-loop μ-loop
 body-has-label-requires c κs =
-    let start = c .before .before .before .before .before .before .before .before .before in
-    let loop = c .before .before .before .before .before .loop in
-    let stitch-view = c .before .before .before .before .stitch-view in
+    let at-stitch-view = c .before .before .before .before in
+    let at-loop = at-stitch-view .before in
+    let start = at-loop .before .before .before .before in
+    let loop = at-loop .loop in
+    let stitch-view = at-stitch-view .stitch-view in
     (stitch-range _ _ _ (loop .inv .0) (stitch-view .ensures) _ (c .before .before .t .given .1), omega (arith, loop .inv .1, start .pre .1))
 
 same-length-2 : tie.Need-same-length-2 Inv-loop μ-loop
@@ -45,22 +49,32 @@ same-length-2 c = omega (arith, c .before .before .before .before .before .befor
 
 returns-2 : tie.Need-returns-2 Inv-loop μ-loop
 returns-2 c =
-    let start = c .before .before .before .before .before .before .before .before .before .before .before .before .before in
-    let loop = c .before .before .before .before .before .before .before .before .before .loop in
-    let stitch-view = c .before .before .before .before .before .before .before .before .stitch-view in
-    let t = c .before .before .before .before .before .before .t in
+    let at-t = c .before .before .before .before .before .before in
+    let at-stitch-view = at-t .before .before in
+    let at-loop = at-stitch-view .before in
+    let start = at-loop .before .before .before .before in
+    let loop = at-loop .loop in
+    let stitch-view = at-stitch-view .stitch-view in
+    let t = at-t .t in
     let body-has-label = c .before .before .before .body-has-label in
     rw (loop .inv .2) (label-found _ _ _ (loop .inv .0) (stitch-view .ensures) _ (t .given .1) (start .args .name .now) (body-has-label .ensures) (c .if1 .taken))
 
 loop-less : tie.Need-loop-less Inv-loop μ-loop
-loop-less c = stitches-fewer _ _ _ (c .before .before .before .before .before .before .before .before .before .loop .inv .0) (c .before .before .before .before .before .before .before .before .stitch-view .ensures) _ (c .before .before .before .before .before .before .t .given .1)
+loop-less c =
+    let at-t = c .before .before .before .before .before .before in
+    let at-stitch-view = at-t .before .before in
+    let at-loop = at-stitch-view .before in
+    stitches-fewer _ _ _ (at-loop .loop .inv .0) (at-stitch-view .stitch-view .ensures) _ (at-t .t .given .1)
 
 loop-again : tie.Need-loop-again Inv-loop μ-loop
 loop-again c =
-    let start = c .before .before .before .before .before .before .before .before .before .before .before .before .before in
-    let loop = c .before .before .before .before .before .before .before .before .before .loop in
-    let stitch-view = c .before .before .before .before .before .before .before .before .stitch-view in
-    let t = c .before .before .before .before .before .before .t in
+    let at-t = c .before .before .before .before .before .before in
+    let at-stitch-view = at-t .before .before in
+    let at-loop = at-stitch-view .before in
+    let start = at-loop .before .before .before .before in
+    let loop = at-loop .loop in
+    let stitch-view = at-stitch-view .stitch-view in
+    let t = at-t .t in
     let body-has-label = c .before .before .before .body-has-label in
     (stitches-after _ _ _ (loop .inv .0) (stitch-view .ensures) _ (t .given .1), omega (arith, loop .inv .1), loop .inv .2 ∙ label-passed _ _ _ (loop .inv .0) (stitch-view .ensures) _ (t .given .1) (start .args .name .now) (body-has-label .ensures) (c .if1 .left))
 

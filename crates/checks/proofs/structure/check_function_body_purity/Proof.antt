@@ -11,19 +11,25 @@ returns c k h before = rw (purity-at k h before (c .before .before .before .args
 
 returns-2 : tie.Need-returns-2
 returns-2 c k h before =
-    let start = c .before .before .before .before .before .before .before .before in
-    let is-sort = c .before .before .before .before .before .before .is-sort in
-    let if1 = c .before .before .before .before .before .if1 in
-    let is-sort2 = c .before .before .before .before .is-sort2 in
+    let at-is-sort2 = c .before .before .before .before in
+    let at-if1 = at-is-sort2 .before in
+    let at-is-sort = at-if1 .before in
+    let start = at-is-sort .before .before in
+    let is-sort = at-is-sort .is-sort in
+    let if1 = at-if1 .if1 in
+    let is-sort2 = at-is-sort2 .is-sort2 in
     let if2 = c .before .before .before .if2 in
     rw (purity-at k h before (start .args .file .now) (start .args .slot)) (passed _ (is-sort .ensures) (if1 .left) (picked _ (is-sort2 .ensures) (if2 .taken) (picked _ (rw (c .before .before .item-name .ensures) at (c .before .is-end-or-done .ensures)) (c .if3 .taken) refl)))
 
 returns-3 : tie.Need-returns-3
 returns-3 c k h before =
-    let start = c .before .before .before .before .before .before .before .before in
-    let is-sort = c .before .before .before .before .before .before .is-sort in
-    let if1 = c .before .before .before .before .before .if1 in
-    let is-sort2 = c .before .before .before .before .is-sort2 in
+    let at-is-sort2 = c .before .before .before .before in
+    let at-if1 = at-is-sort2 .before in
+    let at-is-sort = at-if1 .before in
+    let start = at-is-sort .before .before in
+    let is-sort = at-is-sort .is-sort in
+    let if1 = at-if1 .if1 in
+    let is-sort2 = at-is-sort2 .is-sort2 in
     let if2 = c .before .before .before .if2 in
     rw (purity-at k h before (start .args .file .now) (start .args .slot)) (passed _ (is-sort .ensures) (if1 .left) (picked _ (is-sort2 .ensures) (if2 .taken) (passed _ (rw (c .before .before .item-name .ensures) at (c .before .is-end-or-done .ensures)) (c .if3 .left) refl)))
 

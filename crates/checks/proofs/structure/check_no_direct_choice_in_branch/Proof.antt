@@ -7,15 +7,19 @@ use Rattle.checks.proofs.structure.check_no_direct_choice_in_branch.Tie
 
 returns : tie.Need-returns
 returns c k h before =
-    let is-sort = c .before .before .before .before .before .is-sort in
-    let if1 = c .before .before .before .before .if1 in
+    let at-if1 = c .before .before .before .before in
+    let at-is-sort = at-if1 .before in
+    let is-sort = at-is-sort .is-sort in
+    let if1 = at-if1 .if1 in
     let in-branch = c .before .before .before .in-branch in
     rw (choices-judged k h before _) (picked _ (is-sort .ensures) (if1 .taken) (picked _ (in-branch .ensures _ _) (c .before .before .if2 .taken) (picked _ (c .before .choice-has-explicit-divert .ensures) (c .if3 .taken) refl)))
 
 returns-2 : tie.Need-returns-2
 returns-2 c k h before =
-    let is-sort = c .before .before .before .before .before .is-sort in
-    let if1 = c .before .before .before .before .if1 in
+    let at-if1 = c .before .before .before .before in
+    let at-is-sort = at-if1 .before in
+    let is-sort = at-is-sort .is-sort in
+    let if1 = at-if1 .if1 in
     let in-branch = c .before .before .before .in-branch in
     rw (choices-judged k h before _) (picked _ (is-sort .ensures) (if1 .taken) (picked _ (in-branch .ensures _ _) (c .before .before .if2 .taken) (passed _ (c .before .choice-has-explicit-divert .ensures) (c .if3 .left) refl)))
 

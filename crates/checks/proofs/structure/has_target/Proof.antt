@@ -12,7 +12,9 @@ returns-2 : tie.Need-returns-2
 returns-2 c = or-found _ (or-passed (c .before .before .before .is-sort .ensures) (c .before .before .if1 .left) (c .before .is-sort2 .ensures)) (c .if2 .taken)
 
 returns-3 : tie.Need-returns-3
-returns-3 c = or-passed (or-passed (c .before .before .before .before .is-sort .ensures) (c .before .before .before .if1 .left) (c .before .before .is-sort2 .ensures)) (c .before .if2 .left) (c .is-sort3 .ensures)
+returns-3 c =
+    let at-is-sort = c .before .before .before .before in
+    or-passed (or-passed (at-is-sort .is-sort .ensures) (c .before .before .before .if1 .left) (c .before .before .is-sort2 .ensures)) (c .before .if2 .left) (c .is-sort3 .ensures)
 
 pub has-target-spec : {M : Type 1} → statement M
 has-target-spec =

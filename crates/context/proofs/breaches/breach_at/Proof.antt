@@ -11,13 +11,21 @@ returns-2 : tie.Need-returns-2
 returns-2 c = breach-12 (c .before .before .before .args .rule) (c .before .before .before .args .place) (c .before .before .before .args .flow) (c .before .before .before .args .own) (c .before .before .rule-number .ensures) (c .if2 .taken)
 
 returns-3 : tie.Need-returns-3
-returns-3 c = breach-13 (c .before .before .before .before .args .rule) (c .before .before .before .before .args .place) (c .before .before .before .before .args .flow) (c .before .before .before .before .args .own) (c .before .before .before .rule-number .ensures) (c .if3 .taken)
+returns-3 c =
+    let start = c .before .before .before .before in
+    breach-13 (start .args .rule) (start .args .place) (start .args .flow) (start .args .own) (c .before .before .before .rule-number .ensures) (c .if3 .taken)
 
 returns-4 : tie.Need-returns-4
-returns-4 c = breach-14 (c .before .before .before .before .before .args .rule) (c .before .before .before .before .before .args .place) (c .before .before .before .before .before .args .flow) (c .before .before .before .before .before .args .own) (c .before .before .before .before .rule-number .ensures) (c .if4 .taken)
+returns-4 c =
+    let at-rule-number = c .before .before .before .before in
+    let start = at-rule-number .before in
+    breach-14 (start .args .rule) (start .args .place) (start .args .flow) (start .args .own) (at-rule-number .rule-number .ensures) (c .if4 .taken)
 
 returns-5 : tie.Need-returns-5
-returns-5 c = breach-own (c .before .before .before .before .before .args .rule) (c .before .before .before .before .before .args .place) (c .before .before .before .before .before .args .flow) (c .before .before .before .before .before .args .own) (c .before .before .before .before .rule-number .ensures) (c .before .before .before .if1 .left) (c .before .before .if2 .left) (c .before .if3 .left) (c .if4 .left)
+returns-5 c =
+    let at-rule-number = c .before .before .before .before in
+    let start = at-rule-number .before in
+    breach-own (start .args .rule) (start .args .place) (start .args .flow) (start .args .own) (at-rule-number .rule-number .ensures) (c .before .before .before .if1 .left) (c .before .before .if2 .left) (c .before .if3 .left) (c .if4 .left)
 
 pub breach-at-spec : {M : Type 1} → statement M
 breach-at-spec =

@@ -8,7 +8,10 @@ count-items-requires : tie.Need-count-items-requires
 count-items-requires c κs = c .before .before .before .before .before .before .before .before .before .pre .1 .1 .0 .body
 
 validate-passes-requires : tie.Need-validate-passes-requires
-validate-passes-requires c κs = (c .before .before .before .before .before .before .before .before .before .before .before .before .before .before .before .pre .0, (c .before .before .before .before .before .before .before .before .before .before .before .before .before .before .before .pre .1 .0, (c .before .before .before .before .before .before .before .before .before .before .before .before .before .before .before .pre .1 .1 .0, (held-first _ (c .before .before .before .before .before .count-items .ensures) (c .before .before .before .before .before .before .before .before .before .before .before .before .before .before .before .pre .1 .1 .1 .0 .0), (c .before .before .before .before .before .before .before .before .before .before .before .before .before .before .before .pre .1 .1 .1 .0 .1, c .before .before .before .before .before .before .before .before .before .before .before .before .before .before .before .pre .1 .1 .1 .1)))))
+validate-passes-requires c κs =
+    let at-count-items = c .before .before .before .before .before in
+    let start = at-count-items .before .before .before .before .before .before .before .before .before .before in
+    (start .pre .0, (start .pre .1 .0, (start .pre .1 .1 .0, (held-first _ (at-count-items .count-items .ensures) (start .pre .1 .1 .1 .0 .0), (start .pre .1 .1 .1 .0 .1, start .pre .1 .1 .1 .1)))))
 
 returns : tie.Need-returns
 returns c = c .before .before .before .before .before .before .validate-passes .ensures .answer

@@ -8,7 +8,8 @@ use Rattle.context.proofs.context.validate_first_steps.Tie as tie
 
 validate-function-purity-requires : tie.Need-validate-function-purity-requires
 validate-function-purity-requires c κs =
-    let pre = c .before .before .before .before .before .before .before .before .before .before .before .before .pre in
+    let start = c .before .before .before .before .before .before .before .before .before .before .before .before in
+    let pre = start .pre in
     let scope = c .before .before .before .knot-scope .ensures in
     let rest = pre .1 .1 .1 in
     (pre .0, (pre .1 .0, (scope, (rw scope (pre .1 .1 .0), (rest .0, rw scope (rest .1))))))
@@ -16,21 +17,23 @@ validate-function-purity-requires c κs =
 returns : tie.Need-returns
 returns c =
     let purity = c .before .before .before .before .before .before .before .before in
-    let start = purity .before .before .before .before .before .before .before .before .before .before .before .before .before in
+    let back-21 = purity .before .before .before .before .before .before .before .before .before .before .before .before .before in
+    let start = back-21 in
     let told = c .enum-told .given .1 in
     let found = purity-found (start .args .file .now) (start .args .c) (start .args .v) (start .pre .1 .0) (purity .validate-function-purity .ensures .answer) told in
     record { answer = found; held = λ e. absurd (never-clear (sym told ∙ e)) }
 
 validate-flow-parameter-names-requires : tie.Need-validate-flow-parameter-names-requires
 validate-flow-parameter-names-requires c κs =
-    let purity = c .before .before .before .before .before .before .before .before in
-    let pre = purity .before .before .before .before .before .before .before .before .before .before .before .before .before .pre in
+    let start = c .before .before .before .before .before .before .before .before .before .before .before .before .before .before .before .before .before .before .before .before .before in
+    let pre = start .pre in
     (pre .0 .sections, (pre .0 .functions-known, pre .1 .0 .params))
 
 returns-2 : tie.Need-returns-2
 returns-2 c =
     let purity = c .before .before .before .before .before .before .before .before .before in
-    let start = purity .before .before .before .before .before .before .before .before .before .before .before .before .before in
+    let back-22 = purity .before .before .before .before .before .before .before .before .before .before .before .before .before in
+    let start = back-22 in
     let found = purity .validate-function-purity .ensures in
     let none = c .before .enum-told2 .given .1 in
     let params = c .validate-flow-parameter-names .ensures in

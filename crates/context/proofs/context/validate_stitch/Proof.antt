@@ -10,13 +10,24 @@ validate-stitch-name-requires : tie.Need-validate-stitch-name-requires
 validate-stitch-name-requires c κs = c .before .before .before .before .before .before .before .before .before .pre .0 .sections
 
 returns : tie.Need-returns
-returns c = rw (stitch-runs _ _) (runs-found _ _ _ (name-run _ _ _ (c .before .before .before .before .before .before .before .before .before .before .before .before .pre .1 .0) (c .before .before .before .before .before .before .before .before .before .before .before .before .args .w) (c .before .before .validate-stitch-name .ensures)) (c .enum-told .given .1))
+returns c =
+    let start = c .before .before .before .before .before .before .before .before .before .before .before .before in
+    rw (stitch-runs _ _) (runs-found _ _ _ (name-run _ _ _ (start .pre .1 .0) (start .args .w) (c .before .before .validate-stitch-name .ensures)) (c .enum-told .given .1))
 
 validate-body-requires : tie.Need-validate-body-requires
-validate-body-requires c κs = (omega arith, (c .before .before .before .before .before .before .before .before .before .before .before .before .before .before .before .pre .0, (rw (c .before .before .before .before .before .before .stitch-scope .ensures) (stitch-ready _ _ (c .before .before .before .before .before .before .before .before .before .before .before .before .before .before .before .pre .1 .0) _ (c .before .before .before .before .before .before .before .before .before .before .before .before .before .before .before .pre .1 .1 .0)), (c .before .before .before .before .before .before .before .before .before .before .before .before .before .before .before .pre .1 .1 .1 .0, rw (c .before .before .before .before .before .before .stitch-scope .ensures) (c .before .before .before .before .before .before .before .before .before .before .before .before .before .before .before .pre .1 .1 .1 .1)))))
+validate-body-requires c κs =
+    let at-stitch-scope = c .before .before .before .before .before .before in
+    let start = at-stitch-scope .before .before .before .before .before .before .before .before .before in
+    (omega arith, (start .pre .0, (rw (at-stitch-scope .stitch-scope .ensures) (stitch-ready _ _ (start .pre .1 .0) _ (start .pre .1 .1 .0)), (start .pre .1 .1 .1 .0, rw (at-stitch-scope .stitch-scope .ensures) (start .pre .1 .1 .1 .1)))))
 
 returns-2 : tie.Need-returns-2
-returns-2 c = rw (stitch-runs _ _) (runs-passed _ _ _ (name-run _ _ _ (c .before .before .before .before .before .before .before .before .before .before .before .before .before .before .before .before .before .before .before .before .before .before .pre .1 .0) (c .before .before .before .before .before .before .before .before .before .before .before .before .before .before .before .before .before .before .before .before .before .before .args .w) (c .before .before .before .before .before .before .before .before .before .before .before .before .validate-stitch-name .ensures)) (c .before .before .before .before .before .before .before .before .before .before .enum-told2 .given .1) (stitch-run _ _ _ (c .before .before .before .before .before .before .before .before .before .before .before .before .before .before .before .before .before .before .before .before .before .before .pre .1 .0) (c .before .before .before .before .before .before .before .before .before .before .before .before .before .before .before .before .before .before .before .before .before .before .args .w) (rw (c .before .before .before .before .before .before .before .before .before .before .before .before .before .stitch-scope .ensures) at (c .before .before .before .before .before .before .validate-body .ensures))))
+returns-2 c =
+    let at-validate-body = c .before .before .before .before .before .before in
+    let at-enum-told2 = at-validate-body .before .before .before .before in
+    let at-validate-stitch-name = at-enum-told2 .before .before in
+    let at-stitch-scope = at-validate-stitch-name .before in
+    let start = at-stitch-scope .before .before .before .before .before .before .before .before .before in
+    rw (stitch-runs _ _) (runs-passed _ _ _ (name-run _ _ _ (start .pre .1 .0) (start .args .w) (at-validate-stitch-name .validate-stitch-name .ensures)) (at-enum-told2 .enum-told2 .given .1) (stitch-run _ _ _ (start .pre .1 .0) (start .args .w) (rw (at-stitch-scope .stitch-scope .ensures) at (at-validate-body .validate-body .ensures))))
 
 pub validate-stitch-spec : {M : Type 1} → statement M
 validate-stitch-spec =

@@ -8,7 +8,8 @@ use Rattle.context.proofs.context.validate_unclear_flow.Tie as tie
 
 find-in-passes-requires : tie.Need-find-in-passes-requires
 find-in-passes-requires c κs =
-    let pre = c .before .before .before .before .before .before .before .before .before .before .before .pre in
+    let start = c .before .before .before .before .before .before .before .before .before .before .before in
+    let pre = start .pre in
     let scope = c .before .before .knot-scope .ensures in
     let rest = pre .1 .1 .1 in
     (omega arith, (pre .0, (rw scope (knot-ready _ _ (pre .1 .0)), (rw scope (pre .1 .1 .0), (rest .0, rw scope (rest .1))))))
@@ -16,7 +17,8 @@ find-in-passes-requires c κs =
 returns : tie.Need-returns
 returns c =
     let own = c .before .before .before .before .before .before in
-    let scope = own .before .before .before in
+    let back-9 = own .before .before .before in
+    let scope = back-9 in
     let start = scope .before .before .before .before .before .before .before .before .before in
     let found = rw (scope .knot-scope .ensures) at (own .find-in-passes .ensures .answer) in
     own-found (start .args .file .now) (start .args .c) (start .args .v) (start .pre .1 .0) found (c .enum-told .given .1)
@@ -24,7 +26,8 @@ returns c =
 validate-stitches-requires : tie.Need-validate-stitches-requires
 validate-stitches-requires c κs =
     let scratch = c .before .before .before .before .before .before in
-    let batch = scratch .before .before in
+    let back-8 = scratch .before .before in
+    let batch = back-8 in
     let pre = batch .before .before .before .before .before .before .before .before .before .before .before .before .before .pre in
     let rest = pre .1 .1 .1 in
     (pre .0, (pre .1 .0, (omega (arith, pre .1 .1 .0 .room, rest .0, batch .batch .given, scratch .scratch .given), rest .1)))
@@ -32,7 +35,8 @@ validate-stitches-requires c κs =
 returns-2 : tie.Need-returns-2
 returns-2 c =
     let stitches = c .before .before .before .before .before .before .before .before in
-    let clear = stitches .before .before .before .before in
+    let back-12 = stitches .before .before .before .before in
+    let clear = back-12 in
     let own = clear .before .before .before .before .before .before in
     let scope = own .before .before .before in
     let start = scope .before .before .before .before .before .before .before .before .before in
@@ -43,7 +47,8 @@ returns-2 c =
 validate-body-requires : tie.Need-validate-body-requires
 validate-body-requires c κs =
     let scratch2 = c .before .before .before .before .before .before in
-    let batch2 = scratch2 .before .before in
+    let back-8 = scratch2 .before .before in
+    let batch2 = back-8 in
     let scratch = batch2 .before .before .before .before .before .before .before .before .before .before in
     let batch = scratch .before .before in
     let scope = batch .before .before .before .before in
@@ -59,7 +64,8 @@ validate-body-requires c κs =
 returns-3 : tie.Need-returns-3
 returns-3 c =
     let body = c .before .before .before .before .before .before in
-    let passed = body .before .before .before .before in
+    let back-10 = body .before .before .before .before in
+    let passed = back-10 in
     let stitches = passed .before .before .before .before .before .before .before .before in
     let clear = stitches .before .before .before .before in
     let own = clear .before .before .before .before .before .before in

@@ -20,28 +20,52 @@ loop-holds : tie.Need-loop-holds Inv-loop μ-loop
 loop-holds c = (omega arith, c .before .before .before .before .before .before .before .pre .1 .1 .1 .0, quiet-start _ _ _ _ _)
 
 validate-nodes-requires : tie.Need-validate-nodes-requires Inv-loop μ-loop
-validate-nodes-requires c κs = (c .before .before .before .before .before .before .before .before .before .before .before .before .pre .1 .0, (c .before .before .before .before .before .before .before .before .before .before .before .before .pre .1 .1 .0, (c .before .before .before .before .loop .inv .1, (omega (arith, c .before .before .before .before .loop .inv .0, c .before .before .before .before .before .before .before .before .before .before .before .before .pre .1 .1 .1 .1 .0), c .before .before .before .before .before .before .before .before .before .before .before .before .pre .1 .1 .1 .1 .1))))
+validate-nodes-requires c κs =
+    let at-loop = c .before .before .before .before in
+    let start = at-loop .before .before .before .before .before .before .before .before in
+    (start .pre .1 .0, (start .pre .1 .1 .0, (at-loop .loop .inv .1, (omega (arith, at-loop .loop .inv .0, start .pre .1 .1 .1 .1 .0), start .pre .1 .1 .1 .1 .1))))
 
 same-length : tie.Need-same-length Inv-loop μ-loop
-same-length c = omega (arith, c .before .before .before .before .before .before .before .before .before .before .before .loop .inv .0)
+same-length c =
+    let at-loop = c .before .before .before .before .before .before .before .before .before .before .before in
+    omega (arith, at-loop .loop .inv .0)
 
 same-length-2 : tie.Need-same-length-2 Inv-loop μ-loop
-same-length-2 c = omega (arith, c .before .before .before .before .before .before .before .before .before .before .before .loop .inv .0)
+same-length-2 c =
+    let at-loop = c .before .before .before .before .before .before .before .before .before .before .before in
+    omega (arith, at-loop .loop .inv .0)
 
 returns : tie.Need-returns Inv-loop μ-loop
-returns c = record { answer = quiet-found (c .before .before .before .before .before .before .before .before .before .before .before .loop .inv .2) (omega (arith, c .before .before .before .before .before .before .before .before .before .before .loop-test)) (c .before .before .before .before .before .before .before .before .before .pass-at .ensures) (c .before .before .before .before .before .before .validate-nodes .ensures .answer) (c .enum-told .given .1); held = λ e. absurd (never-clear (sym (c .enum-told .given .1) ∙ e)) }
+returns c =
+    let at-validate-nodes = c .before .before .before .before .before .before in
+    let at-pass-at = at-validate-nodes .before .before .before in
+    let at-loop-test = at-pass-at .before in
+    let at-loop = at-loop-test .before in
+    record { answer = quiet-found (at-loop .loop .inv .2) (omega (arith, at-loop-test .loop-test)) (at-pass-at .pass-at .ensures) (at-validate-nodes .validate-nodes .ensures .answer) (c .enum-told .given .1); held = λ e. absurd (never-clear (sym (c .enum-told .given .1) ∙ e)) }
 
 add-pass : tie.Need-add-pass Inv-loop μ-loop
-add-pass c = omega (arith, c .before .before .before .before .before .before .before .before .before .before .before .loop .inv .0, c .before .before .before .before .before .before .before .before .before .before .loop-test)
+add-pass c =
+    let at-loop-test = c .before .before .before .before .before .before .before .before .before .before in
+    let at-loop = at-loop-test .before in
+    omega (arith, at-loop .loop .inv .0, at-loop-test .loop-test)
 
 sub-left : tie.Need-sub-left Inv-loop μ-loop
-sub-left c = omega (arith, c .before .before .before .before .before .before .before .before .before .before .loop-test)
+sub-left c =
+    let at-loop-test = c .before .before .before .before .before .before .before .before .before .before in
+    omega (arith, at-loop-test .loop-test)
 
 loop-less : tie.Need-loop-less Inv-loop μ-loop
-loop-less c = omega (arith, c .before .before .before .before .before .before .before .before .before .before .loop-test)
+loop-less c =
+    let at-loop-test = c .before .before .before .before .before .before .before .before .before .before in
+    omega (arith, at-loop-test .loop-test)
 
 loop-again : tie.Need-loop-again Inv-loop μ-loop
-loop-again c = (omega (arith, c .before .before .before .before .before .before .before .before .before .before .before .loop .inv .0, c .before .before .before .before .before .before .before .before .before .before .loop-test), c .before .before .before .before .before .before .validate-nodes .ensures .held (c .enum-told2 .given .1), quiet-next (c .before .before .before .before .before .before .before .before .before .before .before .loop .inv .2) (omega (arith, c .before .before .before .before .before .before .before .before .before .before .loop-test)) (c .before .before .before .before .before .before .before .before .before .pass-at .ensures) (c .before .before .before .before .before .before .validate-nodes .ensures .answer) (c .enum-told2 .given .1))
+loop-again c =
+    let at-validate-nodes = c .before .before .before .before .before .before in
+    let at-pass-at = at-validate-nodes .before .before .before in
+    let at-loop-test = at-pass-at .before in
+    let at-loop = at-loop-test .before in
+    (omega (arith, at-loop .loop .inv .0, at-loop-test .loop-test), at-validate-nodes .validate-nodes .ensures .held (c .enum-told2 .given .1), quiet-next (at-loop .loop .inv .2) (omega (arith, at-loop-test .loop-test)) (at-pass-at .pass-at .ensures) (at-validate-nodes .validate-nodes .ensures .answer) (c .enum-told2 .given .1))
 
 same-length-3 : tie.Need-same-length-3 Inv-loop μ-loop
 same-length-3 c = omega (arith, c .before .loop .inv .0)

@@ -7,8 +7,9 @@ use Rattle.context.proofs.passes.is_clear.Tie as tie
 
 slice-aggregate-is-body-clear : tie.Need-slice-aggregate-is-body-clear
 slice-aggregate-is-body-clear c =
+    let start = c .before .before .before .before .before .before .before .before .before .before in
     let room = c .before .filter-room in
-    omega (arith, length-take (room .result) (c .before .before .before .before .before .before .before .before .before .before .args .gathers .now), room .ensures)
+    omega (arith, length-take (room .result) (start .args .gathers .now), room .ensures)
 
 pub is-clear-spec : {M : Type 1} → statement M
 is-clear-spec =

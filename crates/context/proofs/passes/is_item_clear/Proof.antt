@@ -24,16 +24,26 @@ loop-holds : tie.Need-loop-holds Inv-loop μ-loop
 loop-holds c = (omega arith, passing-start _ _ _ _ _ _)
 
 judge-item-requires : tie.Need-judge-item-requires Inv-loop μ-loop
-judge-item-requires c κs = (c .before .before .before .before .before .before .before .before .before .before .before .before .before .pre .1 .0, (c .before .before .before .before .before .before .before .before .before .before .before .before .before .pre .1 .1 .0, (omega (arith, c .before .before .before .loop .inv .0, c .before .before .before .before .before .before .before .before .before .before .before .before .before .pre .1 .1 .1 .0), c .before .before .before .before .before .before .before .before .before .before .before .before .before .pre .1 .1 .1 .1)))
+judge-item-requires c κs =
+    let start = c .before .before .before .before .before .before .before .before .before .before .before .before .before in
+    (start .pre .1 .0, (start .pre .1 .1 .0, (omega (arith, c .before .before .before .loop .inv .0, start .pre .1 .1 .1 .0), start .pre .1 .1 .1 .1)))
 
 same-length : tie.Need-same-length Inv-loop μ-loop
 same-length c = omega (arith, c .before .before .before .before .before .before .before .before .loop .inv .0)
 
 returns-2 : tie.Need-returns-2 Inv-loop μ-loop
-returns-2 c = passing-broken _ _ _ _ (c .before .before .before .before .before .before .before .before .loop .inv .1) (omega (arith, c .before .before .before .before .before .before .before .loop-test)) (c .before .before .before .before .before .before .pass-at .ensures) (c .before .before .before .before .judge-item .ensures) (c .enum-told .given .1)
+returns-2 c =
+    let at-judge-item = c .before .before .before .before in
+    let at-pass-at = at-judge-item .before .before in
+    let at-loop-test = at-pass-at .before in
+    let at-loop = at-loop-test .before in
+    passing-broken _ _ _ _ (at-loop .loop .inv .1) (omega (arith, at-loop-test .loop-test)) (at-pass-at .pass-at .ensures) (at-judge-item .judge-item .ensures) (c .enum-told .given .1)
 
 add-pass : tie.Need-add-pass Inv-loop μ-loop
-add-pass c = omega (arith, c .before .before .before .before .before .before .before .before .loop .inv .0, c .before .before .before .before .before .before .before .loop-test)
+add-pass c =
+    let at-loop-test = c .before .before .before .before .before .before .before in
+    let at-loop = at-loop-test .before in
+    omega (arith, at-loop .loop .inv .0, at-loop-test .loop-test)
 
 sub-left : tie.Need-sub-left Inv-loop μ-loop
 sub-left c = omega (arith, c .before .before .before .before .before .before .before .loop-test)
@@ -42,7 +52,12 @@ loop-less : tie.Need-loop-less Inv-loop μ-loop
 loop-less c = omega (arith, c .before .before .before .before .before .before .before .loop-test)
 
 loop-again : tie.Need-loop-again Inv-loop μ-loop
-loop-again c = (omega (arith, c .before .before .before .before .before .before .before .before .loop .inv .0, c .before .before .before .before .before .before .before .loop-test), passing-next _ _ _ _ (c .before .before .before .before .before .before .before .before .loop .inv .1) (omega (arith, c .before .before .before .before .before .before .before .loop-test)) (c .before .before .before .before .before .before .pass-at .ensures) (c .before .before .before .before .judge-item .ensures) (c .enum-told2 .given .1))
+loop-again c =
+    let at-judge-item = c .before .before .before .before in
+    let at-pass-at = at-judge-item .before .before in
+    let at-loop-test = at-pass-at .before in
+    let at-loop = at-loop-test .before in
+    (omega (arith, at-loop .loop .inv .0, at-loop-test .loop-test), passing-next _ _ _ _ (at-loop .loop .inv .1) (omega (arith, at-loop-test .loop-test)) (at-pass-at .pass-at .ensures) (at-judge-item .judge-item .ensures) (c .enum-told2 .given .1))
 
 same-length-2 : tie.Need-same-length-2 Inv-loop μ-loop
 same-length-2 c = omega (arith, c .before .loop .inv .0)

@@ -37,22 +37,34 @@ unfolding rulesOf
 returns-8 c = rw (c .before .enum-told8 .given .1) (c .check-function-body-purity .ensures _ _ _)
 
 validate-temp-name-requires : tie.Need-validate-temp-name-requires
-validate-temp-name-requires c κs = (c .before .before .before .before .before .before .before .before .before .before .pre .0 .sections, (c .before .before .before .before .before .before .before .before .before .before .pre .0 .functions-known, (c .before .before .before .before .before .before .before .before .before .before .pre .1 .0, (c .before .before .before .before .before .before .before .before .before .before .pre .1 .1 .0, (c .before .before .before .before .before .before .before .before .before .before .pre .1 .1 .1 .0, c .before .before .before .before .before .before .before .before .before .before .pre .1 .1 .1 .1 .0)))))
+validate-temp-name-requires c κs =
+    let start = c .before .before .before .before .before .before .before .before .before .before in
+    (start .pre .0 .sections, (start .pre .0 .functions-known, (start .pre .1 .0, (start .pre .1 .1 .0, (start .pre .1 .1 .1 .0, start .pre .1 .1 .1 .1 .0)))))
 
 validate-node-divert-requires : tie.Need-validate-node-divert-requires
-validate-node-divert-requires c κs = (c .before .before .before .before .before .before .before .before .before .pre .0, c .before .before .before .before .before .before .before .before .before .pre .1 .1 .1 .0)
+validate-node-divert-requires c κs =
+    let start = c .before .before .before .before .before .before .before .before .before in
+    (start .pre .0, start .pre .1 .1 .1 .0)
 
 validate-node-function-calls-requires : tie.Need-validate-node-function-calls-requires
-validate-node-function-calls-requires c κs = (c .before .before .before .before .before .before .before .before .before .pre .0 .sections, (c .before .before .before .before .before .before .before .before .before .pre .0 .functions-known, c .before .before .before .before .before .before .before .before .before .pre .1 .1 .1 .0))
+validate-node-function-calls-requires c κs =
+    let start = c .before .before .before .before .before .before .before .before .before in
+    (start .pre .0 .sections, (start .pre .0 .functions-known, start .pre .1 .1 .1 .0))
 
 validate-node-variable-divert-target-requires : tie.Need-validate-node-variable-divert-target-requires
-validate-node-variable-divert-target-requires c κs = (c .before .before .before .before .before .before .before .before .before .pre .1 .0, c .before .before .before .before .before .before .before .before .before .pre .1 .1 .1 .0)
+validate-node-variable-divert-target-requires c κs =
+    let start = c .before .before .before .before .before .before .before .before .before in
+    (start .pre .1 .0, start .pre .1 .1 .1 .0)
 
 validate-node-vars-requires : tie.Need-validate-node-vars-requires
-validate-node-vars-requires c κs = (c .before .before .before .before .before .before .before .before .before .before .pre .1 .0, (c .before .before .before .before .before .before .before .before .before .before .pre .1 .1 .0, (c .before .before .before .before .before .before .before .before .before .before .pre .1 .1 .1 .0, c .before .before .before .before .before .before .before .before .before .before .pre .1 .1 .1 .1 .0)))
+validate-node-vars-requires c κs =
+    let start = c .before .before .before .before .before .before .before .before .before .before in
+    (start .pre .1 .0, (start .pre .1 .1 .0, (start .pre .1 .1 .1 .0, start .pre .1 .1 .1 .1 .0)))
 
 check-gather-label-requires : tie.Need-check-gather-label-requires
-check-gather-label-requires c κs = (c .before .before .before .before .before .before .before .before .before .before .pre .1 .0 .body, (c .before .before .before .before .before .before .before .before .before .before .pre .1 .1 .0, (c .before .before .before .before .before .before .before .before .before .before .pre .1 .1 .1 .0, c .before .before .before .before .before .before .before .before .before .before .pre .1 .1 .1 .1 .1)))
+check-gather-label-requires c κs =
+    let start = c .before .before .before .before .before .before .before .before .before .before in
+    (start .pre .1 .0 .body, (start .pre .1 .1 .0, (start .pre .1 .1 .1 .0, start .pre .1 .1 .1 .1 .1)))
 
 pub judge-spec : {M : Type 1} → statement M
 judge-spec =

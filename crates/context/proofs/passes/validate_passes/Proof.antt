@@ -7,15 +7,18 @@ use Rattle.context.proofs.passes.validate_passes.Statement.{statement}
 use Rattle.context.proofs.passes.validate_passes.Tie as tie
 
 returns : tie.Need-returns
-returns c = record {
-  answer = clear-passes _ _ _ _ _ (sym (c .if1 .taken) ∙ c .before .before .before .before .before .before .before .is-clear .ensures .answer);
-  held = λ e. c .before .before .before .before .before .before .before .is-clear .ensures .held;
-}
+returns c =
+    let at-is-clear = c .before .before .before .before .before .before .before in
+    record {
+      answer = clear-passes _ _ _ _ _ (sym (c .if1 .taken) ∙ at-is-clear .is-clear .ensures .answer);
+      held = λ e. at-is-clear .is-clear .ensures .held;
+    }
 
 find-in-passes-requires : tie.Need-find-in-passes-requires
 find-in-passes-requires c κs =
     let look = c .before .before .before .before .before .before .before .before .before in
-    let pre = look .before .before .before .before .before .before .before .before .before .before .before .before .pre in
+    let start = look .before .before .before .before .before .before .before .before .before .before .before .before in
+    let pre = start .pre in
     let rest = pre .1 .1 .1 .1 in
     (pre .0, (pre .1 .0, (pre .1 .1 .0, (look .is-clear .ensures .held, (omega (arith, rest .0), rest .1)))))
 

@@ -20,25 +20,44 @@ returns : tie.Need-returns Inv-loop μ-loop
 returns c h = params-past (c .before .before .loop .inv .1) h (omega arith)
 
 check-parameter-name-requires : tie.Need-check-parameter-name-requires Inv-loop μ-loop
-check-parameter-name-requires c κs = (c .before .before .before .before .before .before .before .pre .0, c .before .before .before .before .before .before .before .pre .1 .0)
+check-parameter-name-requires c κs =
+    let start = c .before .before .before .before .before .before .before in
+    (start .pre .0, start .pre .1 .0)
 
 returns-2 : tie.Need-returns-2 Inv-loop μ-loop
-returns-2 c h = params-found (c .before .before .before .before .before .before .before .before .loop .inv .1) h (omega arith) (omega arith) (c .before .before .before .before .before .name-at .ensures) (c .before .before .before .before .check-parameter-name .ensures) (c .before .before .judged .given .1) (c .breach-at .ensures)
+returns-2 c h =
+    let at-check-parameter-name = c .before .before .before .before in
+    let at-name-at = at-check-parameter-name .before in
+    let at-loop = at-name-at .before .before .before in
+    params-found (at-loop .loop .inv .1) h (omega arith) (omega arith) (at-name-at .name-at .ensures) (at-check-parameter-name .check-parameter-name .ensures) (c .before .before .judged .given .1) (c .breach-at .ensures)
 
 shared-slice-read-at : tie.Need-shared-slice-read-at Inv-loop μ-loop
 shared-slice-read-at c = omega arith
 
 cast-at : tie.Need-cast-at Inv-loop μ-loop
-cast-at c = omega (arith, c .before .before .before .before .before .before .before .before .shared-slice-known3 .given (c .before .before .before .before .before .before .before .loop .at))
+cast-at c =
+    let at-loop = c .before .before .before .before .before .before .before in
+    let at-shared-slice-known3 = at-loop .before in
+    omega (arith, at-shared-slice-known3 .shared-slice-known3 .given (at-loop .loop .at))
 
 add-at-2 : tie.Need-add-at-2 Inv-loop μ-loop
-add-at-2 c = omega (arith, c .before .before .before .before .before .before .before .before .shared-slice-known3 .given (c .before .before .before .before .before .before .before .loop .at))
+add-at-2 c =
+    let at-loop = c .before .before .before .before .before .before .before in
+    let at-shared-slice-known3 = at-loop .before in
+    omega (arith, at-shared-slice-known3 .shared-slice-known3 .given (at-loop .loop .at))
 
 add-at-3 : tie.Need-add-at-3 Inv-loop μ-loop
-add-at-3 c = omega (arith, c .before .before .before .before .before .before .before .before .shared-slice-known3 .given (c .before .before .before .before .before .before .before .loop .at))
+add-at-3 c =
+    let at-loop = c .before .before .before .before .before .before .before in
+    let at-shared-slice-known3 = at-loop .before in
+    omega (arith, at-shared-slice-known3 .shared-slice-known3 .given (at-loop .loop .at))
 
 loop-again : tie.Need-loop-again Inv-loop μ-loop
-loop-again c = (omega (arith, c .before .before .before .before .before .before .before .before .shared-slice-known3 .given (c .before .before .before .before .before .before .before .loop .at)), params-passed (c .before .before .before .before .before .before .before .loop .inv .1) (omega arith) (omega arith) (c .before .before .before .before .name-at .ensures) (c .before .before .before .check-parameter-name .ensures) (c .before .enum-told .given .1))
+loop-again c =
+    let at-name-at = c .before .before .before .before in
+    let at-loop = at-name-at .before .before .before in
+    let at-shared-slice-known3 = at-loop .before in
+    (omega (arith, at-shared-slice-known3 .shared-slice-known3 .given (at-loop .loop .at)), params-passed (at-loop .loop .inv .1) (omega arith) (omega arith) (at-name-at .name-at .ensures) (c .before .before .before .check-parameter-name .ensures) (c .before .enum-told .given .1))
 
 returns-3 : tie.Need-returns-3 Inv-loop μ-loop
 returns-3 c h = params-end (c .before .loop .inv .1) h (omega arith)

@@ -8,16 +8,28 @@ use Rattle.context.proofs.structure.validate_function_purity.Statement.
 use Rattle.context.proofs.structure.validate_function_purity.Tie as tie
 
 returns : tie.Need-returns
-returns c = record { answer = purity-stitched _ _ _ (c .before .before .before .before .before .before .before .before .before .before .before .before .pre .1 .0) (c .before .before .before .if1 .taken) (c .before .before .has-stitches .ensures) (c .before .if2 .taken) (c .breach-at .ensures); held = λ e. absurd (never-clear e) }
+returns c =
+    let start = c .before .before .before .before .before .before .before .before .before .before .before .before in
+    record { answer = purity-stitched _ _ _ (start .pre .1 .0) (c .before .before .before .if1 .taken) (c .before .before .has-stitches .ensures) (c .before .if2 .taken) (c .breach-at .ensures); held = λ e. absurd (never-clear e) }
 
 validate-passes-requires : tie.Need-validate-passes-requires
-validate-passes-requires c κs = (omega arith, (c .before .before .before .before .before .before .before .before .before .before .before .before .before .before .pre .0, (rw (c .before .before .before .before .before .before .before .before .before .before .before .before .before .before .pre .1 .1 .0) (knot-ready _ _ (c .before .before .before .before .before .before .before .before .before .before .before .before .before .before .pre .1 .0)), (c .before .before .before .before .before .before .before .before .before .before .before .before .before .before .pre .1 .1 .1 .0, (c .before .before .before .before .before .before .before .before .before .before .before .before .before .before .pre .1 .1 .1 .1 .0, c .before .before .before .before .before .before .before .before .before .before .before .before .before .before .pre .1 .1 .1 .1 .1)))))
+validate-passes-requires c κs =
+    let start = c .before .before .before .before .before .before .before .before .before .before .before .before .before .before in
+    (omega arith, (start .pre .0, (rw (start .pre .1 .1 .0) (knot-ready _ _ (start .pre .1 .0)), (start .pre .1 .1 .1 .0, (start .pre .1 .1 .1 .1 .0, start .pre .1 .1 .1 .1 .1)))))
 
 returns-2 : tie.Need-returns-2
-returns-2 c = record { answer = purity-body _ _ _ (c .before .before .before .before .before .before .before .before .before .before .before .before .before .before .before .before .before .before .before .before .before .pre .1 .0) (c .before .before .before .before .before .before .before .before .before .before .before .before .if1 .taken) (c .before .before .before .before .before .before .before .before .before .before .before .has-stitches .ensures) (c .before .before .before .before .before .before .before .before .before .before .if2 .left) (rw (c .before .before .before .before .before .before .before .before .before .before .before .before .before .before .before .before .before .before .before .before .before .pre .1 .1 .0) at (c .before .before .before .before .before .before .validate-passes .ensures .answer)); held = λ e. rw (c .before .before .before .before .before .before .before .before .before .before .before .before .before .before .before .before .before .before .before .before .before .pre .1 .1 .0) at (c .before .before .before .before .before .before .validate-passes .ensures .held e) }
+returns-2 c =
+    let at-validate-passes = c .before .before .before .before .before .before in
+    let at-if2 = at-validate-passes .before .before .before .before in
+    let at-has-stitches = at-if2 .before in
+    let at-if1 = at-has-stitches .before in
+    let start = at-if1 .before .before .before .before .before .before .before .before .before in
+    record { answer = purity-body _ _ _ (start .pre .1 .0) (at-if1 .if1 .taken) (at-has-stitches .has-stitches .ensures) (at-if2 .if2 .left) (rw (start .pre .1 .1 .0) at (at-validate-passes .validate-passes .ensures .answer)); held = λ e. rw (start .pre .1 .1 .0) at (at-validate-passes .validate-passes .ensures .held e) }
 
 returns-3 : tie.Need-returns-3
-returns-3 c = record { answer = purity-skipped _ _ _ (c .before .before .before .before .before .before .before .before .before .pre .1 .0) (c .if1 .left); held = λ e. rw (c .before .before .before .before .before .before .before .before .before .pre .1 .1 .0) at (c .before .before .before .before .before .before .before .before .before .pre .1 .1 .1 .0) }
+returns-3 c =
+    let start = c .before .before .before .before .before .before .before .before .before in
+    record { answer = purity-skipped _ _ _ (start .pre .1 .0) (c .if1 .left); held = λ e. rw (start .pre .1 .1 .0) at (start .pre .1 .1 .1 .0) }
 
 pub validate-function-purity-spec : {M : Type 1} → statement M
 validate-function-purity-spec =

@@ -23,7 +23,9 @@ loop-holds : tie.Need-loop-holds Inv-loop μ-loop
 loop-holds c = (omega (arith, c .before .before .count-items .ensures .room), c .before .before .count-items .ensures .window, items-start _ _ _)
 
 fetch-requires : tie.Need-fetch-requires Inv-loop μ-loop
-fetch-requires c κs = (c .before .before .before .before .before .before .before .before .before .before .pre .0, (c .before .before .loop .inv .1, omega (arith, c .before .before .before .before .before .before .before .before .before .before .pre .1, c .before .before .loop .inv .0)))
+fetch-requires c κs =
+    let start = c .before .before .before .before .before .before .before .before .before .before in
+    (start .pre .0, (c .before .before .loop .inv .1, omega (arith, start .pre .1, c .before .before .loop .inv .0)))
 
 cast-place : tie.Need-cast-place Inv-loop μ-loop
 cast-place c = omega (arith, c .slice-known5 .given (2 * (c .before .before .before .before .before .before .loop .i - c .before .before .before .fetch .result)))
@@ -33,10 +35,14 @@ add-item-requires c κs = c .sort-at .ensures
 
 loop-again : tie.Need-loop-again Inv-loop μ-loop
 loop-again c =
-    let count-items = c .before .before .before .before .before .before .before .before .before .before .before .before .before .before .before .count-items in
-    let loop = c .before .before .before .before .before .before .before .before .before .before .before .before .loop in
-    let loop-test = c .before .before .before .before .before .before .before .before .before .before .before .loop-test in
-    let fetch = c .before .before .before .before .before .before .before .before .before .fetch in
+    let at-fetch = c .before .before .before .before .before .before .before .before .before in
+    let at-loop-test = at-fetch .before .before in
+    let at-loop = at-loop-test .before in
+    let at-count-items = at-loop .before .before .before in
+    let count-items = at-count-items .count-items in
+    let loop = at-loop .loop in
+    let loop-test = at-loop-test .loop-test in
+    let fetch = at-fetch .fetch in
     (omega (arith, loop .inv .0, loop-test, fetch .ensures .early, fetch .ensures .room), fetch .ensures .window, items-next (loop .inv .2) (fetched-item (fetch .ensures) (omega (arith, loop-test, count-items .ensures .counts))) (c .before .before .add-item .ensures))
 
 returns : tie.Need-returns Inv-loop μ-loop

@@ -8,10 +8,14 @@ use Rattle.filters.proofs.declared.is_forbidden_in.Statement.{statement
 use Rattle.filters.proofs.declared.is_forbidden_in.Tie as tie
 
 slice-aggregate-lacks-word : tie.Need-slice-aggregate-lacks-word
-slice-aggregate-lacks-word c = omega (arith, length-take (length (c .before .before .before .before .before .args .filter .now) / 2) (c .before .before .before .before .before .args .filter .now))
+slice-aggregate-lacks-word c =
+    let start = c .before .before .before .before .before in
+    omega (arith, length-take (length (start .args .filter .now) / 2) (start .args .filter .now))
 
 returns : tie.Need-returns
-returns c = not-forbidden (c .before .before .before .before .before .before .before .args .scope) (c .before .before .before .before .before .before .before .pre .1 .0) _ (c .before .lacks-word .ensures) (c .if1 .taken)
+returns c =
+    let start = c .before .before .before .before .before .before .before in
+    not-forbidden (start .args .scope) (start .pre .1 .0) _ (c .before .lacks-word .ensures) (c .if1 .taken)
 
 pub is-forbidden-in-spec : {M : Type 1} → statement M
 is-forbidden-in-spec =

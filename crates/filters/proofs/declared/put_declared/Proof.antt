@@ -8,16 +8,25 @@ use Rattle.filters.proofs.declared.put_declared.Statement.{statement}
 use Rattle.filters.proofs.declared.put_declared.Tie as tie
 
 slice-aggregate-put-names : tie.Need-slice-aggregate-put-names
-slice-aggregate-put-names c = omega (arith, length-take (length (c .before .before .before .before .before .args .filter .now) / 2) (c .before .before .before .before .before .args .filter .now))
+slice-aggregate-put-names c =
+    let start = c .before .before .before .before .before in
+    omega (arith, length-take (length (start .args .filter .now) / 2) (start .args .filter .now))
 
 returns : tie.Need-returns
 returns c = declared-none _ (c .if1 .taken)
 
 put-labels-requires : tie.Need-put-labels-requires
-put-labels-requires c κs = (c .before .before .before .before .before .before .before .before .before .before .before .before .before .pre .1 .0, (c .before .before .before .before .before .before .before .before .before .before .before .before .before .pre .1 .1 .0, omega (arith, c .before .before .before .before .before .before .before .before .before .before .before .before .before .pre .1 .1 .1, c .before .before .before .scratch .given)))
+put-labels-requires c κs =
+    let start = c .before .before .before .before .before .before .before .before .before .before .before .before .before in
+    (start .pre .1 .0, (start .pre .1 .1 .0, omega (arith, start .pre .1 .1 .1, c .before .before .before .scratch .given)))
 
 returns-2 : tie.Need-returns-2
-returns-2 c = declared-put (c .before .before .before .before .before .before .before .before .before .before .before .before .before .before .before .before .before .before .args .filter .now) _ _ (omega (arith, c .before .before .before .before .before .before .before .before .before .before .filter .given, length-take (length (c .before .before .before .before .before .before .before .before .before .before .before .before .before .before .before .before .before .before .args .filter .now) / 2) (c .before .before .before .before .before .before .before .before .before .before .before .before .before .before .before .before .before .before .args .filter .now))) (omega (arith, c .before .before .before .filter2 .given)) (c .before .before .before .before .before .before .before .before .before .before .before .put-names .ensures) (c .before .before .before .before .put-labels .ensures)
+returns-2 c =
+    let at-put-labels = c .before .before .before .before in
+    let at-filter = at-put-labels .before .before .before .before .before .before in
+    let at-put-names = at-filter .before in
+    let start = at-put-names .before .before .before .before .before .before .before in
+    declared-put (start .args .filter .now) _ _ (omega (arith, at-filter .filter .given, length-take (length (start .args .filter .now) / 2) (start .args .filter .now))) (omega (arith, c .before .before .before .filter2 .given)) (at-put-names .put-names .ensures) (at-put-labels .put-labels .ensures)
 
 pub put-declared-spec : {M : Type 1} → statement M
 put-declared-spec =

@@ -6,7 +6,10 @@ use Rattle.filters.proofs.declared.put_names.Statement.{statement}
 use Rattle.filters.proofs.declared.put_names.Tie as tie
 
 returns : tie.Need-returns
-returns c = names-put _ _ _ _ _ (c .before .before .before .before .before .before .before .before .before .add-counted .ensures) (c .before .before .before .before .add-temps .ensures)
+returns c =
+    let at-add-temps = c .before .before .before .before in
+    let at-add-counted = at-add-temps .before .before .before .before .before in
+    names-put _ _ _ _ _ (at-add-counted .add-counted .ensures) (at-add-temps .add-temps .ensures)
 
 pub put-names-spec : {M : Type 1} → statement M
 put-names-spec =

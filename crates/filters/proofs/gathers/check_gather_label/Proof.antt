@@ -7,17 +7,23 @@ use Rattle.filters.proofs.gathers.check_gather_label.Tie as tie
 
 returns : tie.Need-returns
 returns c k h =
-    let is-sort = c .before .before .before .before .before .before .before .is-sort in
-    let if1 = c .before .before .before .before .before .before .if1 in
-    let item-name = c .before .before .before .before .before .item-name in
+    let at-item-name = c .before .before .before .before .before in
+    let at-if1 = at-item-name .before in
+    let at-is-sort = at-if1 .before in
+    let is-sort = at-is-sort .is-sort in
+    let if1 = at-if1 .if1 in
+    let item-name = at-item-name .item-name in
     let has-gather-in = c .before .before .before .has-gather-in in
     rw (gathers-judged k h _ _) (picked _ (is-sort .ensures) (if1 .taken) (picked _ (rw (item-name .ensures) at (has-gather-in .ensures)) (c .if2 .taken) refl))
 
 returns-2 : tie.Need-returns-2
 returns-2 c k h =
-    let is-sort = c .before .before .before .before .before .before .before .is-sort in
-    let if1 = c .before .before .before .before .before .before .if1 in
-    let item-name = c .before .before .before .before .before .item-name in
+    let at-item-name = c .before .before .before .before .before in
+    let at-if1 = at-item-name .before in
+    let at-is-sort = at-if1 .before in
+    let is-sort = at-is-sort .is-sort in
+    let if1 = at-if1 .if1 in
+    let item-name = at-item-name .item-name in
     let has-gather-in = c .before .before .before .has-gather-in in
     rw (gathers-judged k h _ _) (picked _ (is-sort .ensures) (if1 .taken) (passed _ (rw (item-name .ensures) at (has-gather-in .ensures)) (c .if2 .left) refl))
 

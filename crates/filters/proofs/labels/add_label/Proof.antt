@@ -5,7 +5,10 @@ use Rattle.filters.proofs.labels.add_label.Statement.{statement}
 use Rattle.filters.proofs.labels.add_label.Tie as tie
 
 returns : tie.Need-returns
-returns c = label-added _ _ (c .before .before .before .before .before .before .is-labelled .ensures) (c .before .before .before .before .before .if1 .taken) (c .before .before .before .item-name .ensures) (c .before .before .add-word .ensures)
+returns c =
+    let at-if1 = c .before .before .before .before .before in
+    let at-is-labelled = at-if1 .before in
+    label-added _ _ (at-is-labelled .is-labelled .ensures) (at-if1 .if1 .taken) (c .before .before .before .item-name .ensures) (c .before .before .add-word .ensures)
 
 returns-2 : tie.Need-returns-2
 returns-2 c = label-passed _ _ (c .before .is-labelled .ensures) (c .if1 .left)

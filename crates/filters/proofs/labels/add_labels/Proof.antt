@@ -22,13 +22,20 @@ loop-holds : tie.Need-loop-holds Inv-loop μ-loop
 loop-holds c = (omega (arith, c .before .before .count-items .ensures .room), c .before .before .count-items .ensures .window, items-start _ _ _)
 
 fetch-requires : tie.Need-fetch-requires Inv-loop μ-loop
-fetch-requires c κs = (c .before .before .before .before .before .before .before .before .before .before .pre .0, (c .before .before .loop .inv .1, omega (arith, c .before .before .before .before .before .before .before .before .before .before .pre .1, c .before .before .loop .inv .0)))
+fetch-requires c κs =
+    let start = c .before .before .before .before .before .before .before .before .before .before in
+    (start .pre .0, (c .before .before .loop .inv .1, omega (arith, start .pre .1, c .before .before .loop .inv .0)))
 
 cast-place : tie.Need-cast-place Inv-loop μ-loop
 cast-place c = omega (arith, c .slice-known5 .given (2 * (c .before .before .before .before .before .before .loop .i - c .before .before .before .fetch .result)))
 
 loop-again : tie.Need-loop-again Inv-loop μ-loop
-loop-again c = (omega (arith, c .before .before .before .before .before .before .before .before .before .before .before .loop .inv .0, c .before .before .before .before .before .before .before .before .before .before .loop-test, c .before .before .before .before .before .before .before .before .fetch .ensures .early, c .before .before .before .before .before .before .before .before .fetch .ensures .room), c .before .before .before .before .before .before .before .before .fetch .ensures .window, items-next (c .before .before .before .before .before .before .before .before .before .before .before .loop .inv .2) (fetched-item (c .before .before .before .before .before .before .before .before .fetch .ensures) (omega (arith, c .before .before .before .before .before .before .before .before .before .before .loop-test, c .before .before .before .before .before .before .before .before .before .before .before .before .before .before .count-items .ensures .counts))) (c .before .before .add-label .ensures))
+loop-again c =
+    let at-fetch = c .before .before .before .before .before .before .before .before in
+    let at-loop-test = at-fetch .before .before in
+    let at-loop = at-loop-test .before in
+    let at-count-items = at-loop .before .before .before in
+    (omega (arith, at-loop .loop .inv .0, at-loop-test .loop-test, at-fetch .fetch .ensures .early, at-fetch .fetch .ensures .room), at-fetch .fetch .ensures .window, items-next (at-loop .loop .inv .2) (fetched-item (at-fetch .fetch .ensures) (omega (arith, at-loop-test .loop-test, at-count-items .count-items .ensures .counts))) (c .before .before .add-label .ensures))
 
 returns : tie.Need-returns Inv-loop μ-loop
 returns c = items-end (c .before .loop .inv .2) (omega (arith, c .loop-test, c .before .before .before .before .count-items .ensures .counts))

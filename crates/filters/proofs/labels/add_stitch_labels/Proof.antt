@@ -27,13 +27,26 @@ returns : tie.Need-returns Inv-loop μ-loop
 returns c = stitches-end (c .before .before .before .loop .inv .2) (c .before .before .before .loop .inv .1) (c .before .before .stitch-view .ensures) (c .enum-told .given .1)
 
 add-labels-requires : tie.Need-add-labels-requires Inv-loop μ-loop
-add-labels-requires c κs = (stitch-range _ _ _ (c .before .before .before .before .before .before .loop .inv .1) (c .before .before .before .before .before .stitch-view .ensures) _ (c .before .before .before .t .given .1), omega (arith, c .before .before .before .before .before .before .loop .inv .0, c .before .before .before .before .before .before .before .before .before .before .pre .1))
+add-labels-requires c κs =
+    let at-stitch-view = c .before .before .before .before .before in
+    let at-loop = at-stitch-view .before in
+    let start = at-loop .before .before .before .before in
+    (stitch-range _ _ _ (at-loop .loop .inv .1) (at-stitch-view .stitch-view .ensures) _ (c .before .before .before .t .given .1), omega (arith, at-loop .loop .inv .0, start .pre .1))
 
 loop-less : tie.Need-loop-less Inv-loop μ-loop
-loop-less c = stitches-fewer _ _ _ (c .before .before .before .before .before .before .before .before .before .before .before .loop .inv .1) (c .before .before .before .before .before .before .before .before .before .before .stitch-view .ensures) _ (c .before .before .before .before .before .before .before .before .t .given .1)
+loop-less c =
+    let at-t = c .before .before .before .before .before .before .before .before in
+    let at-stitch-view = at-t .before .before in
+    let at-loop = at-stitch-view .before in
+    stitches-fewer _ _ _ (at-loop .loop .inv .1) (at-stitch-view .stitch-view .ensures) _ (at-t .t .given .1)
 
 loop-again : tie.Need-loop-again Inv-loop μ-loop
-loop-again c = (omega (arith, c .before .before .before .before .before .before .before .before .before .before .before .loop .inv .0), stitches-after _ _ _ (c .before .before .before .before .before .before .before .before .before .before .before .loop .inv .1) (c .before .before .before .before .before .before .before .before .before .before .stitch-view .ensures) _ (c .before .before .before .before .before .before .before .before .t .given .1), stitches-next (c .before .before .before .before .before .before .before .before .before .before .before .loop .inv .2) (c .before .before .before .before .before .before .before .before .before .before .before .loop .inv .1) (c .before .before .before .before .before .before .before .before .before .before .stitch-view .ensures) _ (c .before .before .before .before .before .before .before .before .t .given .1) (c .before .before .before .before .add-labels .ensures))
+loop-again c =
+    let at-add-labels = c .before .before .before .before in
+    let at-t = at-add-labels .before .before .before .before in
+    let at-stitch-view = at-t .before .before in
+    let at-loop = at-stitch-view .before in
+    (omega (arith, at-loop .loop .inv .0), stitches-after _ _ _ (at-loop .loop .inv .1) (at-stitch-view .stitch-view .ensures) _ (at-t .t .given .1), stitches-next (at-loop .loop .inv .2) (at-loop .loop .inv .1) (at-stitch-view .stitch-view .ensures) _ (at-t .t .given .1) (at-add-labels .add-labels .ensures))
 
 pub add-stitch-labels-spec : {M : Type 1} → statement M
 add-stitch-labels-spec =

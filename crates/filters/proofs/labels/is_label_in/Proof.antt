@@ -5,7 +5,9 @@ use Rattle.filters.proofs.labels.is_label_in.Statement.{statement}
 use Rattle.filters.proofs.labels.is_label_in.Tie as tie
 
 returns : tie.Need-returns
-returns c = not-label (c .before .before .before .before .before .before .before .args .scope) (c .before .before .before .before .before .before .before .pre .1 .0) _ (c .before .lacks-word .ensures) (c .if1 .taken)
+returns c =
+    let start = c .before .before .before .before .before .before .before in
+    not-label (start .args .scope) (start .pre .1 .0) _ (c .before .lacks-word .ensures) (c .if1 .taken)
 
 pub is-label-in-spec : {M : Type 1} → statement M
 is-label-in-spec =

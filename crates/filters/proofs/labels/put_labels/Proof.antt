@@ -6,7 +6,10 @@ use Rattle.filters.proofs.labels.put_labels.Statement.{statement}
 use Rattle.filters.proofs.labels.put_labels.Tie as tie
 
 returns : tie.Need-returns
-returns c = labels-put _ _ _ _ _ (c .before .before .before .before .before .before .before .before .before .before .before .add-labels .ensures) (c .before .before .before .before .add-stitch-labels .ensures)
+returns c =
+    let at-add-stitch-labels = c .before .before .before .before in
+    let at-add-labels = at-add-stitch-labels .before .before .before .before .before .before .before in
+    labels-put _ _ _ _ _ (at-add-labels .add-labels .ensures) (at-add-stitch-labels .add-stitch-labels .ensures)
 
 pub put-labels-spec : {M : Type 1} → statement M
 put-labels-spec =

@@ -12,10 +12,20 @@ returns-2 : tie.Need-returns-2
 returns-2 c = passed _ (c .before .before .before .is-function .ensures) (c .before .before .if1 .left) (picked _ (c .before .is-parameter .ensures) (c .if2 .taken) refl)
 
 returns-3 : tie.Need-returns-3
-returns-3 c = passed _ (c .before .before .before .before .before .before .before .before .is-function .ensures) (c .before .before .before .before .before .before .before .if1 .left) (passed _ (c .before .before .before .before .before .before .is-parameter .ensures) (c .before .before .before .before .before .if2 .left) (picked _ (c .before .before .before .is-label-in .ensures) (c .if3 .taken) refl))
+returns-3 c =
+    let at-if2 = c .before .before .before .before .before in
+    let at-is-parameter = at-if2 .before in
+    let at-if1 = at-is-parameter .before in
+    let at-is-function = at-if1 .before in
+    passed _ (at-is-function .is-function .ensures) (at-if1 .if1 .left) (passed _ (at-is-parameter .is-parameter .ensures) (at-if2 .if2 .left) (picked _ (c .before .before .before .is-label-in .ensures) (c .if3 .taken) refl))
 
 returns-4 : tie.Need-returns-4
-returns-4 c = passed _ (c .before .before .before .before .before .before .before .before .is-function .ensures) (c .before .before .before .before .before .before .before .if1 .left) (passed _ (c .before .before .before .before .before .before .is-parameter .ensures) (c .before .before .before .before .before .if2 .left) (passed _ (c .before .before .before .is-label-in .ensures) (c .if3 .left) refl))
+returns-4 c =
+    let at-if2 = c .before .before .before .before .before in
+    let at-is-parameter = at-if2 .before in
+    let at-if1 = at-is-parameter .before in
+    let at-is-function = at-if1 .before in
+    passed _ (at-is-function .is-function .ensures) (at-if1 .if1 .left) (passed _ (at-is-parameter .is-parameter .ensures) (at-if2 .if2 .left) (passed _ (c .before .before .before .is-label-in .ensures) (c .if3 .left) refl))
 
 pub check-temp-name-spec : {M : Type 1} → statement M
 check-temp-name-spec =

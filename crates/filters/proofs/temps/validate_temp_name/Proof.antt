@@ -7,13 +7,22 @@ use Rattle.filters.proofs.temps.validate_temp_name.Statement.{statement
 use Rattle.filters.proofs.temps.validate_temp_name.Tie as tie
 
 check-temp-name-requires : tie.Need-check-temp-name-requires
-check-temp-name-requires c κs = (c .before .before .before .before .before .before .before .before .pre .0, (c .before .before .before .before .before .before .before .before .pre .1 .0, (c .before .before .before .before .before .before .before .before .pre .1 .1 .0, (c .before .before .before .before .before .before .before .before .pre .1 .1 .1 .0, c .before .before .before .before .before .before .before .before .pre .1 .1 .1 .1 .1))))
+check-temp-name-requires c κs =
+    let start = c .before .before .before .before .before .before .before .before in
+    (start .pre .0, (start .pre .1 .0, (start .pre .1 .1 .0, (start .pre .1 .1 .1 .0, start .pre .1 .1 .1 .1 .1))))
 
 returns : tie.Need-returns
-returns c before = rw (temps-at _ _ before (c .before .before .before .before .before .before .before .before .before .before .before .args .file .now) (c .before .before .before .before .before .before .before .before .before .before .before .args .slot)) (picked _ (c .before .before .before .before .before .before .is-sort .ensures) (c .before .before .before .before .before .if1 .taken) (rw (c .before .before .before .before .item-name .ensures) at (c .before .before .check-temp-name .ensures)))
+returns c before =
+    let at-item-name = c .before .before .before .before in
+    let at-if1 = at-item-name .before in
+    let at-is-sort = at-if1 .before in
+    let start = at-is-sort .before .before .before .before .before in
+    rw (temps-at _ _ before (start .args .file .now) (start .args .slot)) (picked _ (at-is-sort .is-sort .ensures) (at-if1 .if1 .taken) (rw (at-item-name .item-name .ensures) at (c .before .before .check-temp-name .ensures)))
 
 returns-2 : tie.Need-returns-2
-returns-2 c before = rw (temps-at _ _ before (c .before .before .before .before .before .before .args .file .now) (c .before .before .before .before .before .before .args .slot)) (passed _ (c .before .is-sort .ensures) (c .if1 .left) refl)
+returns-2 c before =
+    let start = c .before .before .before .before .before .before in
+    rw (temps-at _ _ before (start .args .file .now) (start .args .slot)) (passed _ (c .before .is-sort .ensures) (c .if1 .left) refl)
 
 pub validate-temp-name-spec : {M : Type 1} → statement M
 validate-temp-name-spec =

@@ -39,8 +39,10 @@ add-at-2 c = omega (arith, c .shared-slice-known3 .given (c .before .before .bef
 
 loop-again : tie.Need-loop-again Inv-loop μ-loop
 loop-again c =
-    let loop = c .before .before .before .before .before .before .before .before .loop in
-    let name-at = c .before .before .before .before .name-at in
+    let at-name-at = c .before .before .before .before in
+    let at-loop = at-name-at .before .before .before .before in
+    let loop = at-loop .loop in
+    let name-at = at-name-at .name-at in
     let add-word = c .before .before .before .add-word in
     (omega (arith, loop .inv .0), names-next (loop .inv .1) (omega arith) (omega arith) (name-at .ensures) (add-word .ensures))
 

@@ -5,7 +5,10 @@ use Rattle.filters.proofs.words.add_item.Statement.{statement}
 use Rattle.filters.proofs.words.add_item.Tie as tie
 
 returns : tie.Need-returns
-returns c = item-added _ _ (c .before .before .before .before .before .before .before .before .pre) (c .before .before .before .before .before .if1 .taken) (c .before .before .before .item-name .ensures) (c .before .before .add-word .ensures)
+returns c =
+    let at-if1 = c .before .before .before .before .before in
+    let start = at-if1 .before .before .before in
+    item-added _ _ (start .pre) (at-if1 .if1 .taken) (c .before .before .before .item-name .ensures) (c .before .before .add-word .ensures)
 
 returns-2 : tie.Need-returns-2
 returns-2 c = item-passed _ _ (c .before .before .before .pre) (c .if1 .left)

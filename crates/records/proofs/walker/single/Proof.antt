@@ -11,7 +11,9 @@ use Rattle.records.proofs.walker.single.Statement.{statement}
 use Rattle.records.proofs.walker.single.Tie as tie
 
 fits : (c : tie.After-known-told2) → 1 + c .before .answer2 .given .0 .0 ≤ length (c .before .before .before .before .before .before .args .s .now)
-fits c = name-fits (c .before .before .before .before .before .before .args .s .now) (c .before .answer2 .given .0 .0) (c .before .before .before .read-name .ensures) (c .before .answer2 .given .1)
+fits c =
+    let start = c .before .before .before .before .before .before in
+    name-fits (start .args .s .now) (c .before .answer2 .given .0 .0) (c .before .before .before .read-name .ensures) (c .before .answer2 .given .1)
 
 read-name-requires : tie.Need-read-name-requires
 read-name-requires c κs = search needs
@@ -39,13 +41,16 @@ at-end-requires c κs = search needs
 
 returns : tie.Need-returns
 returns c =
-    let a = c .before .before .before .before .before .before .args in
+    let start = c .before .before .before .before .before .before in
+    let a = start .args in
     named-refused (noting (a .skip)) (a .base) (st (a .out .now) (a .n)) ending (a .s .now) (c .before .answer .given .0 .0) (c .before .before .before .read-name .ensures) (c .before .answer .given .1)
 
 returns-2 : tie.Need-returns-2
 returns-2 c =
-    let a = c .before .before .before .before .before .before .before .before .args in
-    rw (named-on (noting (a .skip)) (a .base) (st (a .out .now) (a .n)) ending (a .s .now) (c .before .before .before .answer2 .given .0 .0) (c .before .before .before .before .before .read-name .ensures) (c .before .before .before .answer2 .given .1))
+    let at-read-name = c .before .before .before .before .before in
+    let start = at-read-name .before .before .before in
+    let a = start .args in
+    rw (named-on (noting (a .skip)) (a .base) (st (a .out .now) (a .n)) ending (a .s .now) (c .before .before .before .answer2 .given .0 .0) (at-read-name .read-name .ensures) (c .before .before .before .answer2 .given .1))
     (told-end (noting (a .skip)) _ _ _ (c .at-end .ensures))
 
 pub single-spec : {M : Type 1} → statement M

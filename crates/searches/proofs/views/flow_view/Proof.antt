@@ -19,8 +19,9 @@ returns c = rw (← c .before .before .read-list .ensures, c .enum-told .given .
 returns-2 : tie.Need-returns-2
 unfolding flowViewOf flowViewAt flaggedView part
 returns-2 c =
-    let start = c .before .before .before .before .before .before .before in
-    let read-list = c .before .before .before .before .read-list in
+    let at-read-list = c .before .before .before .before in
+    let start = at-read-list .before .before .before in
+    let read-list = at-read-list .read-list in
     let n = c .before .before .n in
     rw (← read-list .ensures, n .given .1, ← title-none (start .args .file .now) (start .args .at + 5) (start .args .at + (4 + n .given .0 .0)) (omega (arith, c .if1 .taken)))
 
@@ -44,15 +45,23 @@ title-view-requires c κs = omega (arith, fits (c .before), c .if1 .left)
 returns-3 : tie.Need-returns-3
 unfolding flowViewOf flowViewAt flaggedView part
 returns-3 c =
-    rw (← c .before .before .before .before .before .before .before .read-list .ensures, c .before .before .before .before .before .n .given .1, ← c .before .before .title-view .ensures, c .enum-told2 .given .1)
+    let at-n = c .before .before .before .before .before in
+    let at-read-list = at-n .before .before in
+    rw (← at-read-list .read-list .ensures, at-n .n .given .1, ← c .before .before .title-view .ensures, c .enum-told2 .given .1)
 
 shared-slice-read-t16 : tie.Need-shared-slice-read-t16
-shared-slice-read-t16 c = omega (arith, fits (c .before .before .before .before .before .before), c .before .before .before .before .before .if1 .left)
+shared-slice-read-t16 c =
+    let at-if1 = c .before .before .before .before .before in
+    let back-6 = at-if1 .before in
+    omega (arith, fits (back-6), at-if1 .if1 .left)
 
 returns-4 : tie.Need-returns-4
 unfolding flowViewOf flowViewAt flaggedView part
 returns-4 c =
-    rw (← c .before .before .before .before .before .before .before .before .before .read-list .ensures, c .before .before .before .before .before .before .before .n .given .1, ← c .before .before .before .before .title-view .ensures, c .before .before .own .given .1)
+    let at-title-view = c .before .before .before .before in
+    let at-n = at-title-view .before .before .before in
+    let at-read-list = at-n .before .before in
+    rw (← at-read-list .read-list .ensures, at-n .n .given .1, ← at-title-view .title-view .ensures, c .before .before .own .given .1)
 
 pub flow-view-spec : {M : Type 1} → statement M
 flow-view-spec =

@@ -36,7 +36,10 @@ add-t12 c = let o = order (c .before .before .before .before) in omega arith
 
 returns-2 : tie.Need-returns-2
 unfolding titleViewOf titleViewAt part
-returns-2 c = rw (← c .before .before .before .before .before .before .before .read-heading .ensures, c .before .before .before .before .before .h .given .1)
+returns-2 c =
+    let at-h = c .before .before .before .before .before in
+    let at-read-heading = at-h .before .before in
+    rw (← at-read-heading .read-heading .ensures, at-h .h .given .1)
 
 pub title-view-spec : {M : Type 1} → statement M
 title-view-spec =

@@ -22,10 +22,16 @@ returns : tie.Need-returns
 returns c = flow-refused (c .before .before .before .before .before .args .s .now) (c .before .before .before .read-flag .ensures) (c .before .flag .given .1)
 
 returns-2 : tie.Need-returns-2
-returns-2 c = flow-off (c .before .before .before .before .before .before .args .s .now) (c .before .before .before .before .read-flag .ensures) (c .read-unflagged .ensures) (c .before .before .enum-told .given .1)
+returns-2 c =
+    let at-read-flag = c .before .before .before .before in
+    let start = at-read-flag .before .before in
+    flow-off (start .args .s .now) (at-read-flag .read-flag .ensures) (c .read-unflagged .ensures) (c .before .before .enum-told .given .1)
 
 returns-3 : tie.Need-returns-3
-returns-3 c = flow-on (c .before .before .before .before .before .before .args .s .now) (c .before .before .before .before .read-flag .ensures) (c .read-unflagged2 .ensures) (c .before .before .enum-told2 .given .1)
+returns-3 c =
+    let at-read-flag = c .before .before .before .before in
+    let start = at-read-flag .before .before in
+    flow-on (start .args .s .now) (at-read-flag .read-flag .ensures) (c .read-unflagged2 .ensures) (c .before .before .enum-told2 .given .1)
 
 pub read-flow-spec : {M : Type 1} → statement M
 read-flow-spec = tie.close (tie.spec (λ c κs. search needs) (λ c. search needs) (λ c. search needs) sub-read-unflagged part-read-unflagged-start (λ c. search needs) (λ c κs. search needs) (λ c. search needs) sub-read-unflagged-2 part-read-unflagged-start-2 (λ c. search needs) (λ c κs. search needs) returns returns-2 returns-3)

@@ -27,10 +27,14 @@ loop-holds c = (omega arith, refl)
 
 returns : tie.Need-returns Inv-loop μ-loop
 unfolding endOf flows
-returns c = rw (c .before .before .before .before .loop .inv .1, pieces-cut flow (c .before .before .before .before .loop .t .now) (c .before .before .before .loop-test .taken) (c .before .before .read-list .ensures) (c .enum-told .given .1))
+returns c =
+    let at-loop = c .before .before .before .before in
+    rw (at-loop .loop .inv .1, pieces-cut flow (at-loop .loop .t .now) (c .before .before .before .loop-test .taken) (c .before .before .read-list .ensures) (c .enum-told .given .1))
 
 fits : (c : tie.After-known-told Inv-loop μ-loop) → 4 + c .before .n .given .0 .0 ≤ length (c .before .before .before .before .before .loop .t .now)
-fits c = list-fits (c .before .before .before .before .before .loop .t .now) (c .before .n .given .0 .0) (c .before .before .before .read-list .ensures) (c .before .n .given .1)
+fits c =
+    let at-loop = c .before .before .before .before .before in
+    list-fits (at-loop .loop .t .now) (c .before .n .given .0 .0) (c .before .before .before .read-list .ensures) (c .before .n .given .1)
 
 add-e : tie.Need-add-e Inv-loop μ-loop
 add-e c = omega (arith, fits c)
@@ -44,10 +48,14 @@ read-flow-requires c κs = omega (arith, fits (c .before), c .read-flow-arg .giv
 returns-2 : tie.Need-returns-2 Inv-loop μ-loop
 unfolding flows
 returns-2 c =
-    let loop = c .before .before .before .before .before .before .before .before .before .loop in
-    let loop-test = c .before .before .before .before .before .before .before .before .loop-test in
-    let read-list = c .before .before .before .before .before .before .before .read-list in
-    let n = c .before .before .before .before .before .n in
+    let at-n = c .before .before .before .before .before in
+    let at-read-list = at-n .before .before in
+    let at-loop-test = at-read-list .before in
+    let at-loop = at-loop-test .before in
+    let loop = at-loop .loop in
+    let loop-test = at-loop-test .loop-test in
+    let read-list = at-read-list .read-list in
+    let n = at-n .n in
     let read-flow = c .before .before .read-flow in
     rw (loop .inv .1)
     (pieces-other flow (loop .t .now) (n .given .0 .0) (loop-test .taken) (read-list .ensures) (n .given .1) (read-flow .ensures)
@@ -64,12 +72,17 @@ loop-less c = omega (arith, fits (c .before .before .before .before .before), c 
 
 loop-again : tie.Need-loop-again Inv-loop μ-loop
 loop-again c =
-    let loop = c .before .before .before .before .before .before .before .before .before .before .loop in
-    let loop-test = c .before .before .before .before .before .before .before .before .before .loop-test in
-    let read-list = c .before .before .before .before .before .before .before .before .read-list in
-    let n = c .before .before .before .before .before .before .n in
+    let back-5 = c .before .before .before .before .before in
+    let at-n = back-5 .before in
+    let at-read-list = at-n .before .before in
+    let at-loop-test = at-read-list .before in
+    let at-loop = at-loop-test .before in
+    let loop = at-loop .loop in
+    let loop-test = at-loop-test .loop-test in
+    let read-list = at-read-list .read-list in
+    let n = at-n .n in
     let read-flow = c .before .before .before .read-flow in (
-      omega (arith, fits (c .before .before .before .before .before), c .t .given .2, loop .inv .0),
+      omega (arith, fits (back-5), c .t .given .2, loop .inv .0),
       loop .inv .1 ∙ pieces-on flow (loop .t .now) (n .given .0 .0) (loop-test .taken) (read-list .ensures) (n .given .1) (read-flow .ensures) (c .before .enum-told2 .given .1),
     )
 

@@ -23,10 +23,15 @@ loop-holds c = (omega arith, refl)
 
 returns : tie.Need-returns Inv-loop μ-loop
 unfolding endOf
-returns c = rw (c .before .before .before .before .before .loop .inv .1, names-refused (c .before .before .before .before .before .loop .t .now) (c .before .before .before .before .loop-test .taken) (c .before .before .before .read-name .ensures) (c .before .answer .given .1))
+returns c =
+    let at-loop-test = c .before .before .before .before in
+    let at-loop = at-loop-test .before in
+    rw (at-loop .loop .inv .1, names-refused (at-loop .loop .t .now) (at-loop-test .loop-test .taken) (c .before .before .before .read-name .ensures) (c .before .answer .given .1))
 
 fits : (c : tie.After-known-told2 Inv-loop μ-loop) → 1 + c .before .answer2 .given .0 .0 ≤ length (c .before .before .before .before .before .loop .t .now)
-fits c = name-fits (c .before .before .before .before .before .loop .t .now) (c .before .answer2 .given .0 .0) (c .before .before .before .read-name .ensures) (c .before .answer2 .given .1)
+fits c =
+    let at-loop = c .before .before .before .before .before in
+    name-fits (at-loop .loop .t .now) (c .before .answer2 .given .0 .0) (c .before .before .before .read-name .ensures) (c .before .answer2 .given .1)
 
 add-e : tie.Need-add-e Inv-loop μ-loop
 add-e c = omega (arith, fits c, c .before .before .before .before .before .loop .inv .0)
@@ -42,9 +47,12 @@ loop-less c = omega (arith, fits (c .before), c .t .given .2)
 
 loop-again : tie.Need-loop-again Inv-loop μ-loop
 loop-again c =
-    let loop = c .before .before .before .before .before .before .loop in
-    let loop-test = c .before .before .before .before .before .loop-test in
-    let read-name = c .before .before .before .before .read-name in
+    let at-read-name = c .before .before .before .before in
+    let at-loop-test = at-read-name .before in
+    let at-loop = at-loop-test .before in
+    let loop = at-loop .loop in
+    let loop-test = at-loop-test .loop-test in
+    let read-name = at-read-name .read-name in
     let answer2 = c .before .before .answer2 in (
       omega (arith, fits (c .before), c .t .given .2, loop .inv .0),
       loop .inv .1 ∙ rw (to-end (1 + answer2 .given .0 .0) (loop .t .now)) (names-on (loop .t .now) (answer2 .given .0 .0) (loop-test .taken) (read-name .ensures) (answer2 .given .1)),

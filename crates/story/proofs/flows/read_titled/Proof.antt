@@ -7,7 +7,9 @@ use Rattle.story.proofs.flows.read_titled.Statement.{statement}
 use Rattle.story.proofs.flows.read_titled.Tie as tie
 
 laid : (c : tie.After-known-told2) → Laid (c .before .answer2 .given .0 .0) (c .before .before .before .before .before .args .s .now)
-laid c = heading-laid (c .before .before .before .before .before .args .s .now) (c .before .answer2 .given .0 .0) (c .before .before .before .read-heading .ensures) (c .before .answer2 .given .1)
+laid c =
+    let start = c .before .before .before .before .before in
+    heading-laid (start .args .s .now) (c .before .answer2 .given .0 .0) (c .before .before .before .read-heading .ensures) (c .before .answer2 .given .1)
 
 sub-read-nodes : tie.Need-sub-read-nodes
 sub-read-nodes c = omega (arith, laid c)
@@ -26,17 +28,21 @@ returns c = title-refused (c .before .before .before .before .before .args .s .n
 
 returns-2 : tie.Need-returns-2
 returns-2 c =
-    let start = c .before .before .before .before .before .before .before .before .before .before in
-    let read-heading = c .before .before .before .before .before .before .before .before .read-heading in
-    let answer2 = c .before .before .before .before .before .before .answer2 in
+    let at-answer2 = c .before .before .before .before .before .before in
+    let at-read-heading = at-answer2 .before .before in
+    let start = at-read-heading .before .before in
+    let read-heading = at-read-heading .read-heading in
+    let answer2 = at-answer2 .answer2 in
     let read-nodes = c .before .before .before .read-nodes in
     title-nodes-refused (start .args .s .now) (answer2 .given .0 .0) (read-heading .ensures) (answer2 .given .1) (read-nodes .ensures) (c .before .ended .given .1)
 
 returns-3 : tie.Need-returns-3
 returns-3 c =
-    let start = c .before .before .before .before .before .before .before .before .before in
-    let read-heading = c .before .before .before .before .before .before .before .read-heading in
-    let answer2 = c .before .before .before .before .before .answer2 in
+    let at-answer2 = c .before .before .before .before .before in
+    let at-read-heading = at-answer2 .before .before in
+    let start = at-read-heading .before .before in
+    let read-heading = at-read-heading .read-heading in
+    let answer2 = at-answer2 .answer2 in
     title-well (start .args .s .now) (answer2 .given .0 .0) (read-heading .ensures) (answer2 .given .1) (c .before .before .read-nodes .ensures) (c .enum-told .given .1)
 
 pub read-titled-spec : {M : Type 1} → statement M

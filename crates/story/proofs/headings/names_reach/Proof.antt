@@ -21,15 +21,20 @@ loop-holds c = (omega arith, refl)
 
 returns : tie.Need-returns Inv-loop μ-loop
 returns c =
-    let start = c .before .before .before .before .before .before .before .before in
-    let loop = c .before .before .before .before .before .before .loop in
-    let loop-test = c .before .before .before .before .before .loop-test in
+    let at-loop-test = c .before .before .before .before .before in
+    let at-loop = at-loop-test .before in
+    let start = at-loop .before .before in
+    let loop = at-loop .loop in
+    let loop-test = at-loop-test .loop-test in
     let read-name = c .before .before .before .read-name in
     rw (loop .inv .1) (reach-refused (start .args .s .now) (loop .left) (loop .e) (loop-test .taken) (read-name .ensures) (c .before .answer .given .1))
 
 -- the name fits what is left of the bytes
 fits : (c : tie.After-known-told2 Inv-loop μ-loop) → c .before .before .before .before .before .before .loop .e + (1 + c .before .answer2 .given .0 .0) ≤ length (c .before .before .before .before .before .before .before .before .args .s .now)
-fits c = omega (arith, name-fits _ (c .before .answer2 .given .0 .0) (c .before .before .before .read-name .ensures) (c .before .answer2 .given .1), c .before .before .before .before .read-name-arg .given .2, c .before .before .before .before .before .before .loop .inv .0)
+fits c =
+    let at-read-name-arg = c .before .before .before .before in
+    let at-loop = at-read-name-arg .before .before in
+    omega (arith, name-fits _ (c .before .answer2 .given .0 .0) (c .before .before .before .read-name .ensures) (c .before .answer2 .given .1), at-read-name-arg .read-name-arg .given .2, at-loop .loop .inv .0)
 
 add-e : tie.Need-add-e Inv-loop μ-loop
 add-e c = omega (arith, fits c)
@@ -39,9 +44,11 @@ add-e-2 c = omega (arith, fits c)
 
 loop-again : tie.Need-loop-again Inv-loop μ-loop
 loop-again c =
-    let start = c .before .before .before .before .before .before .before .before in
-    let loop = c .before .before .before .before .before .before .loop in
-    let loop-test = c .before .before .before .before .before .loop-test in
+    let at-loop-test = c .before .before .before .before .before in
+    let at-loop = at-loop-test .before in
+    let start = at-loop .before .before in
+    let loop = at-loop .loop in
+    let loop-test = at-loop-test .loop-test in
     let read-name = c .before .before .before .read-name in
     (fits c, loop .inv .1 ∙ reach-on (start .args .s .now) (loop .left) (loop .e) (c .before .answer2 .given .0 .0) (loop-test .taken) (read-name .ensures) (c .before .answer2 .given .1))
 

@@ -29,7 +29,9 @@ loop-holds : tie.Need-loop-holds Inv-loop μ-loop
 loop-holds c = (omega (arith, c .before .before .count-items .ensures .room), c .before .before .count-items .ensures .window, storing-start)
 
 fetch-requires : tie.Need-fetch-requires Inv-loop μ-loop
-fetch-requires c κs = (c .before .before .before .before .before .before .before .before .before .before .pre .0, (c .before .before .loop .inv .1, omega (arith, c .before .before .before .before .before .before .before .before .before .before .pre .1, c .before .before .loop .inv .0)))
+fetch-requires c κs =
+    let start = c .before .before .before .before .before .before .before .before .before .before in
+    (start .pre .0, (c .before .before .loop .inv .1, omega (arith, start .pre .1, c .before .before .loop .inv .0)))
 
 sub-at : tie.Need-sub-at Inv-loop μ-loop
 sub-at c = search needs
@@ -57,10 +59,13 @@ slice-read-put-label c = search needs
 
 put-label-requires : tie.Need-put-label-requires Inv-loop μ-loop
 put-label-requires c κs =
-    let start = c .before .before .before .before .before .before .before .before .before .before .before .before .before .before .before .before in
-    let count-items = c .before .before .before .before .before .before .before .before .before .before .before .count-items in
-    let loop = c .before .before .before .before .before .before .before .before .loop in
-    let fetch = c .before .before .before .before .before .fetch in
+    let at-fetch = c .before .before .before .before .before in
+    let at-loop = at-fetch .before .before .before in
+    let at-count-items = at-loop .before .before .before in
+    let start = at-count-items .before .before .before .before .before in
+    let count-items = at-count-items .count-items in
+    let loop = at-loop .loop in
+    let fetch = at-fetch .fetch in
     item-placed (start .pre .0) (loop .i) _ _ (fetched-item (fetch .ensures) (omega (arith, count-items .ensures .counts)))
 
 add-i : tie.Need-add-i Inv-loop μ-loop
@@ -71,10 +76,13 @@ loop-less c = search needs
 
 loop-again : tie.Need-loop-again Inv-loop μ-loop
 loop-again c =
-    let start = c .before .before .before .before .before .before .before .before .before .before .before .before .before .before .before .before .before .before .before in
-    let count-items = c .before .before .before .before .before .before .before .before .before .before .before .before .before .before .count-items in
-    let loop = c .before .before .before .before .before .before .before .before .before .before .before .loop in
-    let fetch = c .before .before .before .before .before .before .before .before .fetch in (
+    let at-fetch = c .before .before .before .before .before .before .before .before in
+    let at-loop = at-fetch .before .before .before in
+    let at-count-items = at-loop .before .before .before in
+    let start = at-count-items .before .before .before .before .before in
+    let count-items = at-count-items .count-items in
+    let loop = at-loop .loop in
+    let fetch = at-fetch .fetch in (
       omega (arith, fetch .ensures .early, fetch .ensures .room),
       fetch .ensures .window,
       storing-many (loop .inv .2) _
@@ -90,8 +98,9 @@ same-length-2 c = search needs
 
 returns : tie.Need-returns Inv-loop μ-loop
 returns c =
-    let start = c .before .before .before .before .before .before .before .before .before in
-    let count-items = c .before .before .before .before .count-items in
+    let at-count-items = c .before .before .before .before in
+    let start = at-count-items .before .before .before .before .before in
+    let count-items = at-count-items .count-items in
     storing-end (c .before .loop .inv .2) (labels-end _ _ (bodyIn (start .args .file .now) (start .args .from) (start .args .to)) (c .before .loop .i) (omega (arith, count-items .ensures .counts)))
 
 pub collect-labels-from-nodes-spec : {M : Type 1} → statement M

@@ -34,12 +34,17 @@ same-length-2 c = search needs
 
 returns : tie.Need-returns
 returns c =
-    let start = c .before .before .before .before .before .before .before .before .before .before .before .before .before .before .before .before .before .before .before .before .before .before .before .before .before .before .before in
-    let put-entry = c .before .before .before .before .before .before .before .before .before .before .before .before .before .before .before .before .before .before .before .before .before .put-entry in
-    let put-params = c .before .before .before .before .before .before .before .before .before .before .before .before .before .before .before .before .before .put-params in
-    let prefix-number = c .before .before .before .before .before .before .before .before .before .before .before .before .before .before .prefix-number in
-    let collect-labels-from-nodes = c .before .before .before .before .before .before .before .before .before .before .before .collect-labels-from-nodes in
-    let put-stitches = c .before .before .before .before .put-stitches in
+    let at-put-stitches = c .before .before .before .before in
+    let at-collect-labels-from-nodes = at-put-stitches .before .before .before .before .before .before .before in
+    let at-prefix-number = at-collect-labels-from-nodes .before .before .before in
+    let at-put-params = at-prefix-number .before .before .before in
+    let at-put-entry = at-put-params .before .before .before .before in
+    let start = at-put-entry .before .before .before .before .before .before in
+    let put-entry = at-put-entry .put-entry in
+    let put-params = at-put-params .put-params in
+    let prefix-number = at-prefix-number .prefix-number in
+    let collect-labels-from-nodes = at-collect-labels-from-nodes .collect-labels-from-nodes in
+    let put-stitches = at-put-stitches .put-stitches in
     flow-stored _ (viewedFlow (start .args .file .now) (start .args .v)) (put-entry .ensures) (put-params .ensures) (prefix-number .ensures) (collect-labels-from-nodes .ensures) (put-stitches .ensures)
 
 pub put-flow-spec : {M : Type 1} → statement M

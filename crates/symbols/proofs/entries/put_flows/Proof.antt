@@ -52,9 +52,11 @@ returns c =
 
 put-flow-requires : tie.Need-put-flow-requires Inv-loop μ-loop
 put-flow-requires c κs =
-    let start = c .before .before .before .before .before .before .before .before .before .before in
-    let loop = c .before .before .before .before .before .before .loop in
-    let flow-view = c .before .before .before .before .before .flow-view in
+    let at-flow-view = c .before .before .before .before .before in
+    let at-loop = at-flow-view .before in
+    let start = at-loop .before .before .before .before in
+    let loop = at-loop .loop in
+    let flow-view = at-flow-view .flow-view in
     let v = c .before .before .before .v in
     let l = flow-laid (start .args .file .now) (loop .at) (start .args .end) (v .given .0 .0) (flow-view .ensures) (v .given .1) in (
       (
@@ -68,19 +70,26 @@ put-flow-requires c κs =
 
 loop-less : tie.Need-loop-less Inv-loop μ-loop
 loop-less c =
-    let start = c .before .before .before .before .before .before .before .before .before .before .before .before .before .before .before in
-    let loop = c .before .before .before .before .before .before .before .before .before .before .before .loop in
-    let flow-view = c .before .before .before .before .before .before .before .before .before .before .flow-view in
-    let v = c .before .before .before .before .before .before .before .before .v in
+    let at-v = c .before .before .before .before .before .before .before .before in
+    let at-flow-view = at-v .before .before in
+    let at-loop = at-flow-view .before in
+    let start = at-loop .before .before .before .before in
+    let loop = at-loop .loop in
+    let flow-view = at-flow-view .flow-view in
+    let v = at-v .v in
     let l = flow-laid (start .args .file .now) (loop .at) (start .args .end) (v .given .0 .0) (flow-view .ensures) (v .given .1) in omega (arith, loop .inv .0)
 
 loop-again : tie.Need-loop-again Inv-loop μ-loop
 loop-again c =
-    let start = c .before .before .before .before .before .before .before .before .before .before .before .before .before .before .before in
-    let loop = c .before .before .before .before .before .before .before .before .before .before .before .loop in
-    let flow-view = c .before .before .before .before .before .before .before .before .before .before .flow-view in
-    let v = c .before .before .before .before .before .before .before .before .v in
-    let put-flow = c .before .before .before .before .put-flow in
+    let at-put-flow = c .before .before .before .before in
+    let at-v = at-put-flow .before .before .before .before in
+    let at-flow-view = at-v .before .before in
+    let at-loop = at-flow-view .before in
+    let start = at-loop .before .before .before .before in
+    let loop = at-loop .loop in
+    let flow-view = at-flow-view .flow-view in
+    let v = at-v .v in
+    let put-flow = at-put-flow .put-flow in
     let l = flow-laid (start .args .file .now) (loop .at) (start .args .end) (v .given .0 .0) (flow-view .ensures) (v .given .1) in (
       omega (arith, loop .inv .0),
       flow-readable (start .args .file .now) (loop .at) (start .args .end) (loop .inv .1) (flow-view .ensures) (v .given .0 .0) (v .given .1) .rest,

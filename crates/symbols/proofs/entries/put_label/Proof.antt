@@ -13,7 +13,9 @@ named-at-requires : tie.Need-named-at-requires
 named-at-requires c κs = search needs
 
 cast-t12 : tie.Need-cast-t12
-cast-t12 c = omega (arith, label-near (c .before .before .before .before .before .before .args .file .now) (c .before .before .before .before .before .before .args .place) (c .before .before .before .before .before .before .args .tag) (c .before .named-at .ensures))
+cast-t12 c =
+    let start = c .before .before .before .before .before .before in
+    omega (arith, label-near (start .args .file .now) (start .args .place) (start .args .tag) (c .before .named-at .ensures))
 
 put-entry-requires : tie.Need-put-entry-requires
 put-entry-requires c κs = search needs
@@ -23,10 +25,13 @@ same-length c = search needs
 
 returns : tie.Need-returns
 returns c =
-    let start = c .before .before .before .before .before .before .before .before .before in
-    let is-labelled = c .before .before .before .before .before .before .is-labelled in
-    let if1 = c .before .before .before .before .before .if1 in
-    let named-at = c .before .before .before .before .named-at in
+    let at-named-at = c .before .before .before .before in
+    let at-if1 = at-named-at .before in
+    let at-is-labelled = at-if1 .before in
+    let start = at-is-labelled .before .before .before in
+    let is-labelled = at-is-labelled .is-labelled in
+    let if1 = at-if1 .if1 in
+    let named-at = at-named-at .named-at in
     label-stored (start .args .flow) (start .args .stitch) (itemFrom (start .args .file .now) (start .args .place) (start .args .tag)) (is-labelled .ensures) _ (if1 .taken) (named-at .ensures) (c .before .before .put-entry .ensures)
 
 returns-2 : tie.Need-returns-2

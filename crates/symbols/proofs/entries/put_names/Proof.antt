@@ -53,8 +53,9 @@ loop-less c = search needs
 
 loop-again : tie.Need-loop-again Inv-loop μ-loop
 loop-again c =
-    let start = c .before .before .before .before .before .before .before .before .before .before in
-    let loop = c .before .before .before .before .before .before .before .loop in
+    let at-loop = c .before .before .before .before .before .before .before in
+    let start = at-loop .before .before .before in
+    let loop = at-loop .loop in
     let put-entry = c .before .before .before .put-entry in
     (omega arith, storing-one (loop .inv .1) (names-on (start .args .file .now) (loop .left) (loop .at) (start .args .end) (omega arith) (omega arith) (omega arith)) (put-entry .ensures))
 

@@ -21,7 +21,9 @@ same-length : tie.Need-same-length
 same-length c = search needs
 
 returns : tie.Need-returns
-returns c = rw (← counted-names (c .before .before .before .before .before .before .before .args .file .now) (c .before .before .before .before .before .before .before .args .params)) (c .before .before .put-names .ensures)
+returns c =
+    let start = c .before .before .before .before .before .before .before in
+    rw (← counted-names (start .args .file .now) (start .args .params)) (c .before .before .put-names .ensures)
 
 pub put-params-spec : {M : Type 1} → statement M
 put-params-spec =

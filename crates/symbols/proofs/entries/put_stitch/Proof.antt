@@ -25,10 +25,13 @@ same-length-2 c = search needs
 
 returns : tie.Need-returns
 returns c =
-    let start = c .before .before .before .before .before .before .before .before .before .before .before .before .before .before .before .before .before .before .before in
-    let put-entry = c .before .before .before .before .before .before .before .before .before .before .before .before .before .put-entry in
-    let put-params = c .before .before .before .before .before .before .before .before .before .put-params in
-    let collect-labels-from-nodes = c .before .before .before .before .collect-labels-from-nodes in
+    let at-collect-labels-from-nodes = c .before .before .before .before in
+    let at-put-params = at-collect-labels-from-nodes .before .before .before .before .before in
+    let at-put-entry = at-put-params .before .before .before .before in
+    let start = at-put-entry .before .before .before .before .before .before in
+    let put-entry = at-put-entry .put-entry in
+    let put-params = at-put-params .put-params in
+    let collect-labels-from-nodes = at-collect-labels-from-nodes .collect-labels-from-nodes in
     stitch-stored _ (start .args .flow) (viewedStitch (start .args .file .now) (start .args .v)) (put-entry .ensures) (put-params .ensures) (collect-labels-from-nodes .ensures)
 
 pub put-stitch-spec : {M : Type 1} → statement M

@@ -50,9 +50,11 @@ returns c =
 
 put-stitch-requires : tie.Need-put-stitch-requires Inv-loop μ-loop
 put-stitch-requires c κs =
-    let start = c .before .before .before .before .before .before .before .before .before .before in
-    let loop = c .before .before .before .before .before .before .loop in
-    let stitch-view = c .before .before .before .before .before .stitch-view in
+    let at-stitch-view = c .before .before .before .before .before in
+    let at-loop = at-stitch-view .before in
+    let start = at-loop .before .before .before .before in
+    let loop = at-loop .loop in
+    let stitch-view = at-stitch-view .stitch-view in
     let v = c .before .before .before .v in
     let l = stitch-laid (start .args .file .now) (loop .at) (start .args .end) (v .given .0 .0) (stitch-view .ensures) (v .given .1) in (
       (
@@ -65,19 +67,26 @@ put-stitch-requires c κs =
 
 loop-less : tie.Need-loop-less Inv-loop μ-loop
 loop-less c =
-    let start = c .before .before .before .before .before .before .before .before .before .before .before .before .before .before .before in
-    let loop = c .before .before .before .before .before .before .before .before .before .before .before .loop in
-    let stitch-view = c .before .before .before .before .before .before .before .before .before .before .stitch-view in
-    let v = c .before .before .before .before .before .before .before .before .v in
+    let at-v = c .before .before .before .before .before .before .before .before in
+    let at-stitch-view = at-v .before .before in
+    let at-loop = at-stitch-view .before in
+    let start = at-loop .before .before .before .before in
+    let loop = at-loop .loop in
+    let stitch-view = at-stitch-view .stitch-view in
+    let v = at-v .v in
     let l = stitch-laid (start .args .file .now) (loop .at) (start .args .end) (v .given .0 .0) (stitch-view .ensures) (v .given .1) in omega (arith, loop .inv .0)
 
 loop-again : tie.Need-loop-again Inv-loop μ-loop
 loop-again c =
-    let start = c .before .before .before .before .before .before .before .before .before .before .before .before .before .before .before in
-    let loop = c .before .before .before .before .before .before .before .before .before .before .before .loop in
-    let stitch-view = c .before .before .before .before .before .before .before .before .before .before .stitch-view in
-    let v = c .before .before .before .before .before .before .before .before .v in
-    let put-stitch = c .before .before .before .before .put-stitch in
+    let at-put-stitch = c .before .before .before .before in
+    let at-v = at-put-stitch .before .before .before .before in
+    let at-stitch-view = at-v .before .before in
+    let at-loop = at-stitch-view .before in
+    let start = at-loop .before .before .before .before in
+    let loop = at-loop .loop in
+    let stitch-view = at-stitch-view .stitch-view in
+    let v = at-v .v in
+    let put-stitch = at-put-stitch .put-stitch in
     let l = stitch-laid (start .args .file .now) (loop .at) (start .args .end) (v .given .0 .0) (stitch-view .ensures) (v .given .1) in (
       omega (arith, loop .inv .0),
       stitch-readable (start .args .file .now) (loop .at) (start .args .end) (loop .inv .1) (stitch-view .ensures) (v .given .0 .0) (v .given .1) .rest,

@@ -10,13 +10,16 @@ use Rattle.symbols.proofs.entries.write_index.Statement.{statement}
 use Rattle.symbols.proofs.entries.write_index.Tie as tie
 
 put-names-requires : tie.Need-put-names-requires
-put-names-requires c κs = let g = readable (c .before .before .before .before .args .file .now) (c .before .before .before .before .args .c) refl (c .before .before .before .before .pre .0) .order in omega arith
+put-names-requires c κs =
+    let start = c .before .before .before .before in
+    let g = readable (start .args .file .now) (start .args .c) refl (start .pre .0) .order in omega arith
 
 collect-labels-from-nodes-requires : tie.Need-collect-labels-from-nodes-requires
 collect-labels-from-nodes-requires c κs =
-    let g = readable (c .before .before .before .before .before .before .before .before .before .args .file .now) (c .before .before .before .before .before .before .before .before .before .args .c) refl (c .before .before .before .before .before .before .before .before .before .pre .0) .order in (
+    let start = c .before .before .before .before .before .before .before .before .before in
+    let g = readable (start .args .file .now) (start .args .c) refl (start .pre .0) .order in (
       record { ordered = g .root; within = omega arith; short = g .short },
-      omega (arith, c .before .before .before .before .before .before .before .before .before .pre .1),
+      omega (arith, start .pre .1),
     )
 
 put-flows-requires : tie.Need-put-flows-requires
@@ -36,10 +39,13 @@ same-length-2 c = search needs
 returns : tie.Need-returns
 unfolding storyIn
 returns c =
-    let start = c .before .before .before .before .before .before .before .before .before .before .before .before .before .before .before .before .before .before .before .before .before in
-    let put-names = c .before .before .before .before .before .before .before .before .before .before .before .before .before .before .before .before .put-names in
-    let collect-labels-from-nodes = c .before .before .before .before .before .before .before .before .before .before .before .collect-labels-from-nodes in
-    let put-flows = c .before .before .before .before .put-flows in
+    let at-put-flows = c .before .before .before .before in
+    let at-collect-labels-from-nodes = at-put-flows .before .before .before .before .before .before .before in
+    let at-put-names = at-collect-labels-from-nodes .before .before .before .before .before in
+    let start = at-put-names .before .before .before .before .before in
+    let put-names = at-put-names .put-names in
+    let collect-labels-from-nodes = at-collect-labels-from-nodes .collect-labels-from-nodes in
+    let put-flows = at-put-flows .put-flows in
     let g = readable (start .args .file .now) (start .args .c) refl (start .pre .0) .order in
     story-stored _ (storyIn (start .args .c) (start .args .file .now))
     (rw (← section-names (start .args .file .now) (start .args .c .externals) (omega arith)) (put-names .ensures))

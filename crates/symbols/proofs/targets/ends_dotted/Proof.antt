@@ -21,7 +21,9 @@ shared-slice-read-if2 : tie.Need-shared-slice-read-if2
 shared-slice-read-if2 c = search needs
 
 returns-2 : tie.Need-returns-2
-returns-2 c = dot-other (c .before .before .before .before .before .args .s .now) (c .before .before .before .before .before .args .end .now) (omega arith) (c .if2 .taken)
+returns-2 c =
+    let start = c .before .before .before .before .before in
+    dot-other (start .args .s .now) (start .args .end .now) (omega arith) (c .if2 .taken)
 
 sub-same-name : tie.Need-sub-same-name
 sub-same-name c = search needs
@@ -36,7 +38,9 @@ same-name-requires : tie.Need-same-name-requires
 same-name-requires c κs = search needs
 
 returns-3 : tie.Need-returns-3
-returns-3 c = dot-there (c .before .before .before .before .before .before .before .args .s .now) (c .before .before .before .before .before .before .before .args .end .now) (omega arith) (c .before .before .if2 .left) (c .same-name .ensures)
+returns-3 c =
+    let start = c .before .before .before .before .before .before .before in
+    dot-there (start .args .s .now) (start .args .end .now) (omega arith) (c .before .before .if2 .left) (c .same-name .ensures)
 
 pub ends-dotted-spec : {M : Type 1} → statement M
 ends-dotted-spec =

@@ -34,7 +34,9 @@ is-wanted-requires : tie.Need-is-wanted-requires Inv-loop μ-loop
 is-wanted-requires c κs = search needs
 
 returns-2 : tie.Need-returns-2 Inv-loop μ-loop
-returns-2 c = left-found (c .before .before .before .before .before .before .before .before .loop .inv) (omega arith) (omega arith) (c .before .before .fit-entry .ensures) (c .before .is-wanted .ensures) (c .if2 .taken)
+returns-2 c =
+    let at-loop = c .before .before .before .before .before .before .before .before in
+    left-found (at-loop .loop .inv) (omega arith) (omega arith) (c .before .before .fit-entry .ensures) (c .before .is-wanted .ensures) (c .if2 .taken)
 
 sub-rest : tie.Need-sub-rest Inv-loop μ-loop
 sub-rest c = search needs
@@ -52,7 +54,9 @@ loop-less : tie.Need-loop-less Inv-loop μ-loop
 loop-less c = search needs
 
 loop-again : tie.Need-loop-again Inv-loop μ-loop
-loop-again c = left-next (c .before .before .before .before .before .before .before .before .before .loop .inv) (omega arith) (omega arith) (c .before .before .before .fit-entry .ensures) (c .before .before .is-wanted .ensures) (c .before .if2 .left)
+loop-again c =
+    let at-loop = c .before .before .before .before .before .before .before .before .before in
+    left-next (at-loop .loop .inv) (omega arith) (omega arith) (c .before .before .before .fit-entry .ensures) (c .before .before .is-wanted .ensures) (c .before .if2 .left)
 
 returns-3 : tie.Need-returns-3 Inv-loop μ-loop
 returns-3 c = left-end (c .before .loop .inv) (omega arith)

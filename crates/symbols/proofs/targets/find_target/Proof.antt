@@ -16,10 +16,14 @@ enum-told-2 : tie.Need-enum-told-2
 enum-told-2 c = search needs
 
 returns : tie.Need-returns
-returns c = ap isFound (sym (c .enum-told .given .1) ∙ c .before .before .find-entry .ensures) ∙ first-any _ _ (sought-either (c .before .before .before .before .before .before .args .target .now)) _ _
+returns c =
+    let start = c .before .before .before .before .before .before in
+    ap isFound (sym (c .enum-told .given .1) ∙ c .before .before .find-entry .ensures) ∙ first-any _ _ (sought-either (start .args .target .now)) _ _
 
 returns-2 : tie.Need-returns-2
-returns-2 c = ap isFound (sym (c .enum-told2 .given .1) ∙ c .before .before .find-entry .ensures) ∙ first-any _ _ (sought-either (c .before .before .before .before .before .before .args .target .now)) _ _
+returns-2 c =
+    let start = c .before .before .before .before .before .before in
+    ap isFound (sym (c .enum-told2 .given .1) ∙ c .before .before .find-entry .ensures) ∙ first-any _ _ (sought-either (start .args .target .now)) _ _
 
 pub find-target-spec : {M : Type 1} → statement M
 find-target-spec = tie.close (tie.spec find-entry-requires enum-told enum-told-2 returns returns-2)

@@ -20,16 +20,24 @@ fit-flow-requires : tie.Need-fit-flow-requires
 fit-flow-requires c κs = search needs
 
 returns : tie.Need-returns
-returns c = rw (spelled-alone (c .before .before .before .before .before .before .before .args .file .now) (c .before .before .before .before .before .before .before .args .p) (c .before .if1 .taken), ← c .before .before .before .name-at .ensures) (c .fit-flow .ensures)
+returns c =
+    let start = c .before .before .before .before .before .before .before in
+    rw (spelled-alone (start .args .file .now) (start .args .p) (c .before .if1 .taken), ← c .before .before .before .name-at .ensures) (c .fit-flow .ensures)
 
 ends-dotted-requires : tie.Need-ends-dotted-requires
 ends-dotted-requires c κs = search needs
 
 sub-rest : tie.Need-sub-rest
-sub-rest c = omega (arith, reach-long (c .before .before .before .before .before .before .before .before .args .target .now) (c .before .before .before .before .name-at .result .now) (c .before .ends-dotted .ensures) (c .if2 .taken))
+sub-rest c =
+    let at-name-at = c .before .before .before .before in
+    let start = at-name-at .before .before .before .before in
+    omega (arith, reach-long (start .args .target .now) (at-name-at .name-at .result .now) (c .before .ends-dotted .ensures) (c .if2 .taken))
 
 sub-rest-2 : tie.Need-sub-rest-2
-sub-rest-2 c = omega (arith, reach-long (c .before .before .before .before .before .before .before .before .args .target .now) (c .before .before .before .before .name-at .result .now) (c .before .ends-dotted .ensures) (c .if2 .taken))
+sub-rest-2 c =
+    let at-name-at = c .before .before .before .before in
+    let start = at-name-at .before .before .before .before in
+    omega (arith, reach-long (start .args .target .now) (at-name-at .name-at .result .now) (c .before .ends-dotted .ensures) (c .if2 .taken))
 
 cast-name-at-2 : tie.Need-cast-name-at-2
 cast-name-at-2 c = search needs
@@ -38,18 +46,24 @@ name-at-requires-2 : tie.Need-name-at-requires-2
 name-at-requires-2 c κs = search needs
 
 slice-aggregate-fit-flow : tie.Need-slice-aggregate-fit-flow
-slice-aggregate-fit-flow c = sym (length-take-le _ (c .before .before .before .before .before .before .before .before .before .before .before .args .target .now) (omega arith))
+slice-aggregate-fit-flow c =
+    let start = c .before .before .before .before .before .before .before .before .before .before .before in
+    sym (length-take-le _ (start .args .target .now) (omega arith))
 
 fit-flow-requires-2 : tie.Need-fit-flow-requires-2
 fit-flow-requires-2 c κs = search needs
 
 returns-2 : tie.Need-returns-2
 returns-2 c =
-    let start = c .before .before .before .before .before .before .before .before .before .before .before .before in
-    let name-at = c .before .before .before .before .before .before .before .before .name-at in
-    let if1 = c .before .before .before .before .before .before .if1 in
-    let ends-dotted = c .before .before .before .before .before .ends-dotted in
-    let if2 = c .before .before .before .before .if2 in
+    let at-if2 = c .before .before .before .before in
+    let at-ends-dotted = at-if2 .before in
+    let at-if1 = at-ends-dotted .before in
+    let at-name-at = at-if1 .before .before in
+    let start = at-name-at .before .before .before .before in
+    let name-at = at-name-at .name-at in
+    let if1 = at-if1 .if1 in
+    let ends-dotted = at-ends-dotted .ends-dotted in
+    let if2 = at-if2 .if2 in
     let name-at2 = c .before .before .name-at2 in
     rw (spelled-within (start .args .file .now) (start .args .p) (if1 .left), ← name-at .ensures, ← name-at2 .ensures)
     (reach-fit (start .args .target .now) (name-at .result .now) (ends-dotted .ensures) (dottedIn (start .args .file .now) (start .args .p .flow) (name-at2 .result .now)) (if2 .taken) (c .fit-flow2 .ensures))
@@ -59,8 +73,9 @@ fit-end-requires c κs = search needs
 
 returns-3 : tie.Need-returns-3
 returns-3 c =
-    let start = c .before .before .before .before .before .before .before .before .before in
-    let name-at = c .before .before .before .before .before .name-at in
+    let at-name-at = c .before .before .before .before .before in
+    let start = at-name-at .before .before .before .before in
+    let name-at = at-name-at .name-at in
     let if1 = c .before .before .before .if1 in
     rw (spelled-within (start .args .file .now) (start .args .p) (if1 .left), ← name-at .ensures)
     (within-fit (start .args .target .now) (name-at .result .now) (c .before .before .ends-dotted .ensures) (dottedIn (start .args .file .now) (start .args .p .flow) (nameAt (start .args .file .now) (start .args .p .stitch))) (c .before .if2 .left) (c .fit-end .ensures))

@@ -13,16 +13,22 @@ fit-word-requires : tie.Need-fit-word-requires
 fit-word-requires c κs = search needs
 
 returns : tie.Need-returns
-returns c = rw (dotted-none (c .before .before .before .before .before .args .file .now) (c .before .before .before .before .before .args .flow) (c .before .before .before .before .before .args .last .now) (c .before .if1 .taken)) (c .fit-word .ensures)
+returns c =
+    let start = c .before .before .before .before .before in
+    rw (dotted-none (start .args .file .now) (start .args .flow) (start .args .last .now) (c .before .if1 .taken)) (c .fit-word .ensures)
 
 ends-dotted-requires : tie.Need-ends-dotted-requires
 ends-dotted-requires c κs = search needs
 
 sub-rest : tie.Need-sub-rest
-sub-rest c = omega (arith, reach-long (c .before .before .before .before .before .before .args .target .now) (c .before .before .before .before .before .before .args .last .now) (c .before .ends-dotted .ensures) (c .if2 .taken))
+sub-rest c =
+    let start = c .before .before .before .before .before .before in
+    omega (arith, reach-long (start .args .target .now) (start .args .last .now) (c .before .ends-dotted .ensures) (c .if2 .taken))
 
 sub-rest-2 : tie.Need-sub-rest-2
-sub-rest-2 c = omega (arith, reach-long (c .before .before .before .before .before .before .args .target .now) (c .before .before .before .before .before .before .args .last .now) (c .before .ends-dotted .ensures) (c .if2 .taken))
+sub-rest-2 c =
+    let start = c .before .before .before .before .before .before in
+    omega (arith, reach-long (start .args .target .now) (start .args .last .now) (c .before .ends-dotted .ensures) (c .if2 .taken))
 
 slice-aggregate-fit-word : tie.Need-slice-aggregate-fit-word
 slice-aggregate-fit-word c = sym (length-take-le _ (c .before .before .before .before .before .before .before .args .target .now) (omega arith))
@@ -35,9 +41,11 @@ fit-word-requires-2 c κs = search needs
 
 returns-2 : tie.Need-returns-2
 returns-2 c =
-    let start = c .before .before .before .before .before .before .before .before .before in
-    let if1 = c .before .before .before .before .before .if1 in
-    let ends-dotted = c .before .before .before .before .ends-dotted in
+    let at-ends-dotted = c .before .before .before .before in
+    let at-if1 = at-ends-dotted .before in
+    let start = at-if1 .before .before .before .before in
+    let if1 = at-if1 .if1 in
+    let ends-dotted = at-ends-dotted .ends-dotted in
     let if2 = c .before .before .before .if2 in
     rw (dotted-some (start .args .file .now) (start .args .flow) (start .args .last .now) (if1 .left), ← c .before .name-at .ensures)
     (reach-fit (start .args .target .now) (start .args .last .now) (ends-dotted .ensures) (c .before .name-at .result .now) (if2 .taken) (c .fit-word2 .ensures))

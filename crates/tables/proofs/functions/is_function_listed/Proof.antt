@@ -5,7 +5,9 @@ use Rattle.tables.proofs.functions.is_function_listed.Statement.{statem
 use Rattle.tables.proofs.functions.is_function_listed.Tie as tie
 
 returns : tie.Need-returns
-returns c = listed (c .before .before .before .before .args .file .now) (c .before .before .before .before .args .c) (c .before .before .before .before .args .name .now) (c .is-function-name .ensures)
+returns c =
+    let start = c .before .before .before .before in
+    listed (start .args .file .now) (start .args .c) (start .args .name .now) (c .is-function-name .ensures)
 
 pub is-function-listed-spec : {M : Type 1} → statement M
 is-function-listed-spec =

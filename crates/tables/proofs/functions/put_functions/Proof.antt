@@ -28,7 +28,8 @@ returns c = no-slots _ _ _ (c .before .before .before .clear .ensures) (c .if1 .
 
 loop-holds : tie.Need-loop-holds Inv-loop μ-loop
 loop-holds c =
-    let r = readable (c .before .before .before .before .before .before .before .args .file .now) (c .before .before .before .before .before .before .before .args .c) refl (c .before .before .before .before .before .before .before .pre) in
+    let start = c .before .before .before .before .before .before .before in
+    let r = readable (start .args .file .now) (start .args .c) refl (start .pre) in
     ((r .order .flows, refl), r .flows, filling-start (omega arith) (c .before .before .before .clear .ensures))
 
 flow-view-requires : tie.Need-flow-view-requires Inv-loop μ-loop
@@ -44,9 +45,11 @@ returns-2 c =
 
 put-flow-requires : tie.Need-put-flow-requires Inv-loop μ-loop
 put-flow-requires c κs =
-    let start = c .before .before .before .before .before .before .before .before .before .before .before .before .before in
-    let loop = c .before .before .before .before .before .loop in
-    let flow-view = c .before .before .before .before .flow-view in
+    let at-flow-view = c .before .before .before .before in
+    let at-loop = at-flow-view .before in
+    let start = at-loop .before .before .before .before .before .before .before .before in
+    let loop = at-loop .loop in
+    let flow-view = at-flow-view .flow-view in
     let v = c .before .before .v in
     let l = flow-laid (start .args .file .now) (loop .at) (start .args .c .end) (v .given .0 .0) (flow-view .ensures) (v .given .1) in
     let r = readable (start .args .file .now) (start .args .c) refl (start .pre) .order in
@@ -54,19 +57,25 @@ put-flow-requires c κs =
 
 loop-less : tie.Need-loop-less Inv-loop μ-loop
 loop-less c =
-    let start = c .before .before .before .before .before .before .before .before .before .before .before .before .before .before .before .before in
-    let loop = c .before .before .before .before .before .before .before .before .loop in
-    let flow-view = c .before .before .before .before .before .before .before .flow-view in
-    let v = c .before .before .before .before .before .v in
+    let at-v = c .before .before .before .before .before in
+    let at-flow-view = at-v .before .before in
+    let at-loop = at-flow-view .before in
+    let start = at-loop .before .before .before .before .before .before .before .before in
+    let loop = at-loop .loop in
+    let flow-view = at-flow-view .flow-view in
+    let v = at-v .v in
     let l = flow-laid (start .args .file .now) (loop .at) (start .args .c .end) (v .given .0 .0) (flow-view .ensures) (v .given .1) in
     omega (arith, loop .inv .0)
 
 loop-again : tie.Need-loop-again Inv-loop μ-loop
 loop-again c =
-    let start = c .before .before .before .before .before .before .before .before .before .before .before .before .before .before .before .before in
-    let loop = c .before .before .before .before .before .before .before .before .loop in
-    let flow-view = c .before .before .before .before .before .before .before .flow-view in
-    let v = c .before .before .before .before .before .v in
+    let at-v = c .before .before .before .before .before in
+    let at-flow-view = at-v .before .before in
+    let at-loop = at-flow-view .before in
+    let start = at-loop .before .before .before .before .before .before .before .before in
+    let loop = at-loop .loop in
+    let flow-view = at-flow-view .flow-view in
+    let v = at-v .v in
     let l = flow-laid (start .args .file .now) (loop .at) (start .args .c .end) (v .given .0 .0) (flow-view .ensures) (v .given .1) in (
       omega (arith, loop .inv .0),
       flow-readable (start .args .file .now) (loop .at) (start .args .c .end) (loop .inv .1) (flow-view .ensures) (v .given .0 .0) (v .given .1) .rest,

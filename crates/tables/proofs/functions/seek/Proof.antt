@@ -17,7 +17,9 @@ abbrev μ-loop : tie.MeasureT-loop
 μ-loop file table name slot₀ left₀ slot left = left
 
 loop-holds : tie.Need-loop-holds Inv-loop μ-loop
-loop-holds c = (c .slot-of .ensures .1, walk-start (c .before .before .before .before .before .args .file .now) (c .before .before .before .before .before .args .table .now) (c .before .before .before .before .before .args .name .now) (c .before .hash-of .ensures) (c .slot-of .ensures .0))
+loop-holds c =
+    let start = c .before .before .before .before .before in
+    (c .slot-of .ensures .1, walk-start (start .args .file .now) (start .args .table .now) (start .args .name .now) (c .before .hash-of .ensures) (c .slot-of .ensures .0))
 
 cast-number : tie.Need-cast-number Inv-loop μ-loop
 cast-number c = omega (arith, c .shared-slice-known4 .given (c .before .before .loop .slot))
@@ -30,14 +32,16 @@ returns c =
 
 returns-2 : tie.Need-returns-2 Inv-loop μ-loop
 returns-2 c =
-    let start = c .before .before .before .before .before .before .before .before .before .before .before in
-    let loop = c .before .before .before .before .before .loop in
+    let at-loop = c .before .before .before .before .before in
+    let start = at-loop .before .before .before .before .before .before in
+    let loop = at-loop .loop in
     walk-found (start .args .file .now) (start .args .table .now) (start .args .name .now) (loop .left) (loop .slot) (loop .inv .1) (omega arith) (c .before .before .if1 .left) (c .before .same-at .ensures) (c .if2 .taken)
 
 loop-again : tie.Need-loop-again Inv-loop μ-loop
 loop-again c =
-    let start = c .before .before .before .before .before .before .before .before .before .before .before .before in
-    let loop = c .before .before .before .before .before .before .loop in
+    let at-loop = c .before .before .before .before .before .before in
+    let start = at-loop .before .before .before .before .before .before in
+    let loop = at-loop .loop in
     let if1 = c .before .before .before .if1 in
     (c .next-slot .ensures .1, walk-further (start .args .file .now) (start .args .table .now) (start .args .name .now) (loop .left) (loop .slot) (loop .inv .1) (omega arith) (if1 .left) (c .before .before .same-at .ensures) (c .before .if2 .left) (c .next-slot .ensures .0))
 

@@ -11,7 +11,9 @@ returns c = rw (c .if1 .taken)
 
 returns-2 : tie.Need-returns-2
 unfolding dottedHash
-returns-2 c = rw (ne-eqb _ _ (c .before .before .before .before .if1 .left), ← c .before .before .before .name-at .ensures, ← c .before .before .hash-on .ensures) (c .hash-on2 .ensures)
+returns-2 c =
+    let at-if1 = c .before .before .before .before in
+    rw (ne-eqb _ _ (at-if1 .if1 .left), ← c .before .before .before .name-at .ensures, ← c .before .before .hash-on .ensures) (c .hash-on2 .ensures)
 
 pub hash-dotted-spec : {M : Type 1} → statement M
 hash-dotted-spec =
