@@ -7,9 +7,11 @@ use Rattle.lines.proofs.refused_line.Tie as tie
 
 returns : tie.Need-returns
 returns c =
+    let number = c .before .before .before .before .before .before .before .put-digits in
+    let word = c .before .before .before .before .before .before .before .before .before .before .before .put in
     let fits = c .before .before .before .before .before .before .before .before .before .before .before .before .before .before .before .pre in
-    wrote-then (c .before .before .before .before .before .before .before .before .before .before .before .put .ensures) (omega arith)
-    (wrote-then (c .before .before .before .before .before .before .before .put-digits .ensures .0) (omega (arith, c .before .before .before .before .before .before .before .put-digits .ensures .0 .ends, c .before .before .before .before .before .before .before .put-digits .ensures .1))
+    wrote-then (word .ensures) (omega arith)
+    (wrote-then (number .ensures .0) (omega (arith, number .ensures .0 .ends, number .ensures .1))
     (c .before .before .put2 .ensures))
 
 pub refused-line-spec : {M : Type 1} → statement M
