@@ -1,7 +1,8 @@
 // Builds stories at the limits in a buffer, checks each, and writes its line and its number of entries.
-use lines::line;
+ghost use Prim.Native.Nat.{_+_, _≤_};
+ghost use lib.ListN.{length};
+use lines::check_line;
 use validator::Answer;
-use validator::check;
 
 // The name of the knot, and one that no story here has.
 const KNOT: u8 = 107;
@@ -12,44 +13,6 @@ const ELSEWHERE: u8 = 120;
 const MESSAGE: usize = 640;
 
 const NUMBERS: usize = 1572804;
-
-// The number of bytes of an answer's text.
-fn text_length(answer: Answer) -> usize {
-    match answer {
-        Answer::Accepted(_) => 0,
-        Answer::Breached(b) => b.message,
-        Answer::Unreadable(_) => 0,
-        Answer::ShortIndex => 0,
-        Answer::ShortMessage => 0,
-    }
-}
-
-// Writes the first n bytes to standard output, where there are so many.
-fn print_start(bytes: &[u8], n: usize) {
-    if n <= bytes.len() {
-        io::write_all(1, &bytes[0..n]);
-    }
-}
-
-// Writes the line of an answer with its text.
-fn print_line(answer: Answer, text: &[u8], out: &mut [u8]) {
-    if 640 < text.len() {
-        return;
-    }
-    if out.len() < 700 {
-        return;
-    }
-    let n = line(answer, text, out);
-    print_start(out, n);
-}
-
-// Writes the line of an answer, its text at the start of the message buffer.
-fn print_answer(answer: Answer, message: &[u8], out: &mut [u8]) {
-    let n = text_length(answer);
-    if n <= message.len() {
-        print_line(answer, &message[0..n], out);
-    }
-}
 
 // Writes a number of entries.
 fn print_count(n: usize) {
@@ -70,23 +33,29 @@ fn print_entries(answer: Answer) {
 }
 
 // Checks a file, and writes its line and its number of entries.
-fn print_file(file: &[u8], index: &mut [u32], message: &mut [u8], out: &mut [u8]) {
-    let answer = check(file, index, message);
-    print_answer(answer, message, out);
+fn print_file(file: &[u8], index: &mut [u32], message: &mut [u8], out: &mut [u8])
+    requires { ⌜ length (now message) + 60 ≤ length (now out) ⌝ }
+{
+    let checked = check_line(file, index, message, out);
+    let answer = checked.answer;
+    let end = checked.length;
+    io::write_all(1, &out[..end]);
     print_entries(answer);
 }
 
 // Checks so many bytes of a buffer with so many of the index and of the message buffer, where there are so many.
 fn print_lent(
     space: &[u8],
-    length: usize,
+    size: usize,
     index: &mut [u32],
     numbers: usize,
     message: &mut [u8],
     bytes: usize,
     out: &mut [u8],
-) {
-    if space.len() < length {
+)
+    requires { ⌜ length (now message) + 60 ≤ length (now out) ⌝ }
+{
+    if space.len() < size {
         return;
     }
     if index.len() < numbers {
@@ -96,7 +65,7 @@ fn print_lent(
         return;
     }
     print_file(
-        &space[0..length],
+        &space[0..size],
         &mut index[0..numbers],
         &mut message[0..bytes],
         out,
@@ -298,7 +267,9 @@ fn bytes_of(case: u8) -> usize {
 }
 
 // Builds the story of a case, checks it, and writes its line.
-fn print_case(case: u8, space: &mut [u8], index: &mut [u32], message: &mut [u8], out: &mut [u8]) {
+fn print_case(case: u8, space: &mut [u8], index: &mut [u32], message: &mut [u8], out: &mut [u8])
+    requires { ⌜ length (now message) + 60 ≤ length (now out) ⌝ }
+{
     let length = put_case(case, space);
     print_lent(
         space,
@@ -312,7 +283,9 @@ fn print_case(case: u8, space: &mut [u8], index: &mut [u32], message: &mut [u8],
 }
 
 // Writes the lines of all cases.
-fn print_cases(space: &mut [u8], index: &mut [u32], message: &mut [u8], out: &mut [u8]) {
+fn print_cases(space: &mut [u8], index: &mut [u32], message: &mut [u8], out: &mut [u8])
+    requires { ⌜ length (now message) + 60 ≤ length (now out) ⌝ }
+{
     let mut case: u8 = 0;
     while case < 15 {
         print_case(case, space, index, message, out);
@@ -321,7 +294,9 @@ fn print_cases(space: &mut [u8], index: &mut [u32], message: &mut [u8], out: &mu
 }
 
 // Lends two arrays on.
-fn lend(space: &mut [u8; 1048577], index: &mut [u32; NUMBERS], message: &mut [u8], out: &mut [u8]) {
+fn lend(space: &mut [u8; 1048577], index: &mut [u32; NUMBERS], message: &mut [u8], out: &mut [u8])
+    requires { ⌜ length (now message) + 60 ≤ length (now out) ⌝ }
+{
     print_cases(space, index, message, out);
 }
 
@@ -330,6 +305,6 @@ fn main() {
     let mut space = [0u8; 1048577];
     let mut index = [0u32; NUMBERS];
     let mut message = [0u8; MESSAGE];
-    let mut out = [0u8; 704];
+    let mut out = [0u8; 700];
     lend(&mut space, &mut index, &mut message, &mut out);
 }

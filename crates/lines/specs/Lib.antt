@@ -1,1 +1,2 @@
+-- The definitions on lines.
 pub mod Lines

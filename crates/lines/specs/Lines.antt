@@ -1,14 +1,15 @@
--- The line of an answer: `accepted`, `refused N`, or `breach R at P: TEXT`, ended by 0x0A. Assumes nothing.
-use Prim.Native.Nat.{ℕ, zero, suc, _+_, _/_, _%_}
+-- The line that the program prints for an input: `accepted`, `refused N`, or `breach R at P: TEXT`, ended by 0x0A. Assumes nothing.
+use Prim.Native.Nat.{ℕ, zero, suc, _+_, _/_, _%_, _≤_}
+use mathlib.Core.Path.{_≡_}
 use mathlib.Core.List.{List, [], _∷_, _++_}
 use lib.Dec.{ltb}
+use lib.ListN.{length, take}
 use Rattle.fields.specs.Bytes.{pick}
-use Rattle.fields.specs.Refusals.{refusalNumber}
 use Rattle.names.specs.Words.{Bytes}
 use Rattle.names.specs.Text.{ascii}
-use Rattle.rules.specs.Rules.{number}
 use Rattle.validator.specs.declared.Answer.{Answer}
-use Rattle.validator.specs.declared.Answer.the-variants.{Accepted, Breached, Unreadable, ShortIndex, ShortMessage}
+use Rattle.validator.specs.Results.{Judged, accepted, breach, Result, refused, checked, resultOf}
+use Rattle.validator.specs.Check.{Report, refusing, reportOf}
 
 -- a number below 10 ^ k in decimal, with no zeros in front; where k is 0, nothing
 unfoldable pub digits : ℕ → ℕ → Bytes
@@ -19,20 +20,50 @@ digits (suc k) n = pick (ltb n 10) ((48 + n) ∷ []) (digits k (n / 10) ++ ((48 
 abbrev pub decimal : ℕ → Bytes
 decimal n = digits 20 n
 
+-- the byte that ends a line
 abbrev pub ended : Bytes
 ended = 10 ∷ []
 
+-- the line of a story that is accepted
+abbrev pub acceptedLine : Bytes
+acceptedLine = ascii "accepted" ++ ended
+
+-- the line of a refusal, by its number
 abbrev pub refusedLine : ℕ → Bytes
 refusedLine n = ascii "refused " ++ (decimal n ++ ended)
 
+-- the line of a breach, by its rule, its place and its text
 abbrev pub breachLine : ℕ → ℕ → Bytes → Bytes
 breachLine rule place text =
     ascii "breach " ++ (decimal rule ++ (ascii " at " ++ (decimal place ++ (ascii ": " ++ (text ++ ended)))))
 
--- THE LINE of an answer, with the text of a breach
-unfoldable pub lineOf : Answer → Bytes → Bytes
-lineOf (Accepted entries) text = ascii "accepted" ++ ended
-lineOf (Breached b) text = breachLine (number (b .rule)) (b .place) text
-lineOf (Unreadable r) text = refusedLine (refusalNumber r)
-lineOf ShortIndex text = refusedLine 7
-lineOf ShortMessage text = refusedLine 8
+-- the line of a result, with its text
+unfoldable pub resultLine : Result → Bytes → Bytes
+resultLine (refused n) text = refusedLine n
+resultLine (checked accepted entries size) text = acceptedLine
+resultLine (checked (breach rule place names) entries size) text = breachLine rule place text
+
+-- the line of what a check reports
+abbrev pub reportLine : Report → Bytes
+reportLine report = resultLine (report .result) (report .text)
+
+-- what the program reports of an input: more than 4,096 bytes are refused by 1; else what a check reports with an index of 12,228 numbers and a message buffer of 640 bytes
+unfoldable pub inputReport : Bytes → Report
+inputReport input = pick (ltb 4096 (length input)) (refusing 1) (reportOf input 12228 640)
+
+-- THE LINE that the program prints for an input
+abbrev pub inputLine : Bytes → Bytes
+inputLine input = reportLine (inputReport input)
+
+-- the length of a result's text; a refusal has none
+unfoldable pub textLength : Result → ℕ
+textLength (refused n) = 0
+textLength (checked judged entries size) = size
+
+-- the line of an answer whose text stands at the start of the message buffer
+abbrev pub lineOf : Answer → Bytes → Bytes
+lineOf answer message = resultLine (resultOf answer) (take (textLength (resultOf answer)) message)
+
+-- so many bytes stand at a buffer's start; the second part follows from the first, and a part of the buffer asks for both
+abbrev pub Within : ℕ → List ℕ → Type 0
+Within n buffer = (n ≤ length buffer) × (n ≡ length (take n buffer))

@@ -1,15 +1,26 @@
-// The line that a program prints for an answer, written into a buffer that the caller lends.
+// The line that a program prints for a story file, written into a buffer that the caller lends.
 ghost use mathlib.Core.Path.{_≡_};
 ghost use Prim.Native.Nat.{_+_, _≤_};
 ghost use lib.ListN.{length};
 ghost use mathlib.Core.List.{[], _∷_};
 ghost use Rattle.fields.specs.Refusals.{refusalNumber};
+ghost use Rattle.records.specs.Window.{overlay};
 ghost use Rattle.messages.specs.Messages.{Wrote};
-ghost use Rattle.lines.specs.Lines.{digits, refusedLine, breachLine, lineOf};
+ghost use Rattle.validator.specs.Results.{resultOf};
+ghost use Rattle.validator.specs.Check.{reportOf};
+ghost use Rattle.validator.specs.Checked.{Checked};
+ghost use Rattle.lines.specs.Lines.{digits, refusedLine, breachLine, reportLine, inputReport, inputLine, textLength, lineOf, Within};
 use fields::Refusal;
 use messages::put;
 use rules::rule_number;
 use validator::Answer;
+use validator::check;
+
+// The answer of a check, and the length of its line.
+pub struct CheckedLine {
+    pub answer: Answer,
+    pub length: usize,
+}
 
 // A byte as a number of more bits.
 fn wide(b: u8) -> usize
@@ -43,7 +54,7 @@ fn put_digit(out: &mut [u8], at: usize, d: usize) -> usize
 }
 
 // Writes a number of at most k digits in decimal from `at` on, and answers where it ends.
-pub fn put_digits(out: &mut [u8], at: usize, n: usize, k: usize) -> usize
+fn put_digits(out: &mut [u8], at: usize, n: usize, k: usize) -> usize
     requires { ⌜ at + k ≤ length (now out) ⌝ }
     ensures { λ r. ⌜ Wrote (now (out .entry)) at (digits k n) (now (out .exit)) r ⌝ }
     ensures { λ r. ⌜ r ≤ at + k ⌝ }
@@ -59,7 +70,7 @@ pub fn put_digits(out: &mut [u8], at: usize, n: usize, k: usize) -> usize
 }
 
 // Writes the line of a refusal at the buffer's start, and answers its length.
-pub fn refused_line(n: usize, out: &mut [u8]) -> usize
+fn refused_line(n: usize, out: &mut [u8]) -> usize
     requires { ⌜ 40 ≤ length (now out) ⌝ }
     ensures { λ r. ⌜ Wrote (now (out .entry)) 0 (refusedLine n) (now (out .exit)) r ⌝ }
 {
@@ -69,9 +80,8 @@ pub fn refused_line(n: usize, out: &mut [u8]) -> usize
 }
 
 // Writes the line of a breach at the buffer's start, and answers its length.
-pub fn breach_line(rule: usize, place: usize, text: &[u8], out: &mut [u8]) -> usize
-    requires { ⌜ length (now text) ≤ 640 ⌝ }
-    requires { ⌜ 700 ≤ length (now out) ⌝ }
+fn breach_line(rule: usize, place: usize, text: &[u8], out: &mut [u8]) -> usize
+    requires { ⌜ length (now text) + 60 ≤ length (now out) ⌝ }
     ensures { λ r. ⌜ Wrote (now (out .entry)) 0 (breachLine rule place (now (text .entry))) (now (out .exit)) r ⌝ }
 {
     let a = put(out, 0, b"breach ");
@@ -83,20 +93,52 @@ pub fn breach_line(rule: usize, place: usize, text: &[u8], out: &mut [u8]) -> us
     put(out, f, b"\n")
 }
 
-// Writes the line of an answer at the buffer's start, `text` being the message of a breach, and answers its length.
-pub fn line(answer: Answer, text: &[u8], out: &mut [u8]) -> usize
-    requires { ⌜ length (now text) ≤ 640 ⌝ }
-    requires { ⌜ 700 ≤ length (now out) ⌝ }
-    ensures { λ r. ⌜ Wrote (now (out .entry)) 0 (lineOf answer (now (text .entry))) (now (out .exit)) r ⌝ }
+// Writes the line of an answer at the buffer's start, its text at the start of the message buffer, and answers its length.
+fn line(answer: Answer, message: &[u8], out: &mut [u8]) -> usize
+    requires { ⌜ textLength (resultOf answer) ≤ length (now message) ⌝ }
+    requires { ⌜ length (now message) + 60 ≤ length (now out) ⌝ }
+    ensures { λ r. ⌜ Wrote (now (out .entry)) 0 (lineOf answer (now (message .entry))) (now (out .exit)) r ⌝ }
 {
     match answer {
         Answer::Accepted(_) => put(out, 0, b"accepted\n"),
         Answer::Breached(b) => {
             let rule = b.rule;
-            breach_line(wide(rule_number(rule)), b.place, text, out)
+            let size = b.message;
+            breach_line(wide(rule_number(rule)), b.place, &message[..size], out)
         }
         Answer::Unreadable(r) => refused_line(refusal_number(r), out),
         Answer::ShortIndex => refused_line(7, out),
         Answer::ShortMessage => refused_line(8, out),
     }
+}
+
+// Checks a file, and writes the line of the check's report at the buffer's start.
+pub fn check_line(file: &[u8], index: &mut [u32], message: &mut [u8], out: &mut [u8]) -> CheckedLine
+    requires { ⌜ length (now message) + 60 ≤ length (now out) ⌝ }
+    ensures { λ r. ⌜ Checked (now (file .entry)) (now (index .entry)) (now (message .entry)) (r .answer) (now (index .exit)) (now (message .exit)) ⌝ }
+    ensures { λ r. ⌜ Wrote (now (out .entry)) 0 (reportLine (reportOf (now (file .entry)) (length (now (index .entry))) (length (now (message .entry))))) (now (out .exit)) (r .length) ⌝ }
+    ensures { λ r. ⌜ Within (r .length) (now (out .exit)) ⌝ }
+{
+    let answer = check(file, index, message);
+    let length = line(answer, message, out);
+    CheckedLine { answer, length }
+}
+
+// THE LINE of the program, written at the buffer's start; answers its length. An input of more than 4,096 bytes is refused unread.
+pub fn input_line(
+    input: &[u8],
+    index: &mut [u32; 12228],
+    message: &mut [u8; 640],
+    out: &mut [u8; 700],
+) -> usize
+    ensures { λ r. ⌜ Wrote (now (out .entry)) 0 (inputLine (now (input .entry))) (now (out .exit)) r ⌝ }
+    ensures { λ _. ⌜ now (index .exit) ≡ overlay (inputReport (now (input .entry)) .numbers) (now (index .entry)) ⌝ }
+    ensures { λ _. ⌜ now (message .exit) ≡ overlay (inputReport (now (input .entry)) .text) (now (message .entry)) ⌝ }
+    ensures { λ r. ⌜ Within r (now (out .exit)) ⌝ }
+{
+    if 4096 < input.len() {
+        return refused_line(1, out);
+    }
+    let checked = check_line(input, index, message, out);
+    checked.length
 }

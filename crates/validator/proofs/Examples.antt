@@ -32,11 +32,11 @@ use Rattle.validator.specs.Check.{judgedOf, textOf, Report, storyReport,
 use Rattle.validator.specs.Checked.{Reported, Checked}
 
 -- a digit, 0 to 9 and a to f, by its code
-digit : ℕ → ℕ
+unfoldable pub digit : ℕ → ℕ
 digit c = pick (ltb c 58) (c - 48) (c - 87)
 
 -- bytes written as pairs of digits
-hex : String → Bytes
+unfoldable pub hex : String → Bytes
 hex empty = []
 hex (a then empty) = []
 hex (a then (b then s)) = (digit (code a) * 16 + digit (code b)) ∷ hex s
@@ -48,7 +48,7 @@ pub record Row : Type 0 where
   pub message : ℕ
   pub report : Report
 
-row : Bytes → ℕ → ℕ → Result → List ℕ → Bytes → Row
+unfoldable pub row : Bytes → ℕ → ℕ → Result → List ℕ → Bytes → Row
 row file index message result numbers text = record {
   file = file;
   index = index;
@@ -57,11 +57,11 @@ row file index message result numbers text = record {
 }
 
 -- what the check reports of it
-pub reported : Row → Report
+unfoldable pub reported : Row → Report
 reported r = reportOf (r .file) (r .index) (r .message)
 
 -- THE TABLE, P1 to P10: the sections and the trailer; lengths of index and message buffer; result, index, text
-pub table : List Row
+unfoldable pub table : List Row
 table =
     -- P1 the empty story
     row (hex "" ++ hex "00000000000000000000000000000000494b0100") 0 640

@@ -1,9 +1,10 @@
 // Replays checks from standard input, and writes for each its line, its entries, names and index, and whether the rest of the buffers stays.
 // A check is three numbers of two bytes (numbers of the index, bytes of the message buffer, bytes of the file) and the file.
+ghost use Prim.Native.Nat.{_+_, _≤_};
+ghost use lib.ListN.{length};
 use fields::word;
-use lines::line;
+use lines::check_line;
 use validator::Answer;
-use validator::check;
 
 // The number for none.
 const NONE: usize = 4294967295;
@@ -12,55 +13,6 @@ const NONE: usize = 4294967295;
 const BLANK_NUMBER: u32 = 2779096485;
 
 const BLANK_BYTE: u8 = 165;
-
-// The number of bytes of an answer's text.
-fn text_length(answer: Answer) -> usize {
-    match answer {
-        Answer::Accepted(_) => 0,
-        Answer::Breached(b) => b.message,
-        Answer::Unreadable(_) => 0,
-        Answer::ShortIndex => 0,
-        Answer::ShortMessage => 0,
-    }
-}
-
-// The number of entries that an answer tells.
-fn entry_count(answer: Answer) -> usize {
-    match answer {
-        Answer::Accepted(n) => n,
-        Answer::Breached(b) => b.entries,
-        Answer::Unreadable(_) => 0,
-        Answer::ShortIndex => 0,
-        Answer::ShortMessage => 0,
-    }
-}
-
-// Writes the first n bytes to standard output, where there are so many.
-fn print_start(bytes: &[u8], n: usize) {
-    if n <= bytes.len() {
-        io::write_all(1, &bytes[0..n]);
-    }
-}
-
-// Writes the line of an answer with its text.
-fn print_line(answer: Answer, text: &[u8], out: &mut [u8]) {
-    if 640 < text.len() {
-        return;
-    }
-    if out.len() < 700 {
-        return;
-    }
-    let n = line(answer, text, out);
-    print_start(out, n);
-}
-
-// Writes the line of an answer, its text at the start of the message buffer.
-fn print_answer(answer: Answer, message: &[u8], out: &mut [u8]) {
-    let n = text_length(answer);
-    if n <= message.len() {
-        print_line(answer, &message[0..n], out);
-    }
-}
 
 // A number of the index as a number of more bits.
 fn wide(n: u32) -> usize {
@@ -92,28 +44,6 @@ fn print_index(index: &[u32], entries: usize) {
         i += 1;
     }
     io::write_all(1, b"\n");
-}
-
-// Writes the numbers of a result that is no refusal.
-fn print_result(entries: usize, first: usize, second: usize, index: &[u32]) {
-    io::write_all(1, b"entries");
-    print_number(entries);
-    io::write_all(1, b"\nnames");
-    print_number(first);
-    print_number(second);
-    io::write_all(1, b"\n");
-    print_index(index, entries);
-}
-
-// Writes the numbers of an answer; a refusal has none.
-fn print_numbers(answer: Answer, index: &[u32]) {
-    match answer {
-        Answer::Accepted(n) => print_result(n, NONE, NONE, index),
-        Answer::Breached(b) => print_result(b.entries, b.first, b.second, index),
-        Answer::Unreadable(_) => {}
-        Answer::ShortIndex => {}
-        Answer::ShortMessage => {}
-    }
 }
 
 // Puts the blank number everywhere.
@@ -162,10 +92,10 @@ fn bytes_kept(message: &[u8], from: usize) -> bool {
     true
 }
 
-// Writes whether the rest of both buffers stays.
-fn print_kept(answer: Answer, index: &[u32], message: &[u8]) {
-    if numbers_kept(index, entry_count(answer)) {
-        if bytes_kept(message, text_length(answer)) {
+// Writes whether both buffers stay behind so many entries and so many bytes.
+fn print_kept(entries: usize, size: usize, index: &[u32], message: &[u8]) {
+    if numbers_kept(index, entries) {
+        if bytes_kept(message, size) {
             io::write_all(1, b"rest kept\n\n");
             return;
         }
@@ -173,14 +103,49 @@ fn print_kept(answer: Answer, index: &[u32], message: &[u8]) {
     io::write_all(1, b"rest changed\n\n");
 }
 
+// Writes the numbers of a result that is no refusal, and whether the rest of the buffers stays.
+fn print_result(
+    entries: usize,
+    first: usize,
+    second: usize,
+    size: usize,
+    index: &[u32],
+    message: &[u8],
+) {
+    io::write_all(1, b"entries");
+    print_number(entries);
+    io::write_all(1, b"\nnames");
+    print_number(first);
+    print_number(second);
+    io::write_all(1, b"\n");
+    print_index(index, entries);
+    print_kept(entries, size, index, message);
+}
+
+// Writes what an answer tells beside its line; a refusal has no numbers.
+fn print_answer(answer: Answer, index: &[u32], message: &[u8]) {
+    match answer {
+        Answer::Accepted(n) => print_result(n, NONE, NONE, 0, index, message),
+        Answer::Breached(b) => {
+            print_result(b.entries, b.first, b.second, b.message, index, message)
+        }
+        Answer::Unreadable(_) => print_kept(0, 0, index, message),
+        Answer::ShortIndex => print_kept(0, 0, index, message),
+        Answer::ShortMessage => print_kept(0, 0, index, message),
+    }
+}
+
 // Checks a file with blank buffers, and writes all that the check gives.
-fn replay(file: &[u8], index: &mut [u32], message: &mut [u8], out: &mut [u8]) {
+fn replay(file: &[u8], index: &mut [u32], message: &mut [u8], out: &mut [u8])
+    requires { ⌜ length (now message) + 60 ≤ length (now out) ⌝ }
+{
     blank_numbers(index);
     blank_bytes(message);
-    let answer = check(file, index, message);
-    print_answer(answer, message, out);
-    print_numbers(answer, index);
-    print_kept(answer, index, message);
+    let checked = check_line(file, index, message, out);
+    let answer = checked.answer;
+    let end = checked.length;
+    io::write_all(1, &out[..end]);
+    print_answer(answer, index, message);
 }
 
 // Replays a check with buffers of these lengths, where the lent ones are as long.
@@ -191,7 +156,9 @@ fn replay_lent(
     index: &mut [u32],
     message: &mut [u8],
     out: &mut [u8],
-) {
+)
+    requires { ⌜ length (now message) + 60 ≤ length (now out) ⌝ }
+{
     if index.len() < numbers {
         return;
     }
@@ -202,7 +169,9 @@ fn replay_lent(
 }
 
 // Replays the checks in s, up to one that is cut short.
-fn replay_all(s: &[u8], index: &mut [u32], message: &mut [u8], out: &mut [u8]) {
+fn replay_all(s: &[u8], index: &mut [u32], message: &mut [u8], out: &mut [u8])
+    requires { ⌜ length (now message) + 60 ≤ length (now out) ⌝ }
+{
     let mut at: usize = 0;
     while at < s.len() {
         if s.len() - at < 6 {
@@ -221,7 +190,9 @@ fn replay_all(s: &[u8], index: &mut [u32], message: &mut [u8], out: &mut [u8]) {
 }
 
 // Replays what is on standard input.
-fn replay_input(space: &mut [u8], index: &mut [u32], message: &mut [u8], out: &mut [u8]) {
+fn replay_input(space: &mut [u8], index: &mut [u32], message: &mut [u8], out: &mut [u8])
+    requires { ⌜ length (now message) + 60 ≤ length (now out) ⌝ }
+{
     let n = io::read_full(0, space);
     replay_all(&space[..n], index, message, out);
 }
@@ -231,6 +202,6 @@ fn main() {
     let mut space = [0u8; 131072];
     let mut index = [0u32; 12288];
     let mut message = [0u8; 704];
-    let mut out = [0u8; 704];
+    let mut out = [0u8; 764];
     replay_input(&mut space, &mut index, &mut message, &mut out);
 }

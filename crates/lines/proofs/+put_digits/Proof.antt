@@ -4,7 +4,7 @@ use native.Mathlib.Omega.{arith}
 use borrow.Author.Needs.{needs}
 use borrow.Fn.Kinds.{In}
 use borrow.Fn.PlainCycle.{Measures, is, falls, and}
-use Rattle.messages.proofs.Wrote.{wrote-then, wrote-size}
+use Rattle.messages.proofs.Wrote.{wrote-then}
 use Rattle.lines.proofs.Digits.{digits-none, digits-one, digits-more, wrote-none}
 use Rattle.lines.proofs.put_digit.Reads as put-digit-reads
 use Rattle.lines.proofs.put_digits.Reads as put-digits
@@ -26,7 +26,7 @@ abbrev uses : ℕ → put-digits-lts.Claims
 uses t = (put-digit-reads.Asked, put-digit-reads.Learnt, put-digits-below t, put-digits.Post)
 
 returns : (t : ℕ) → put-digits-lts.Need-returns (uses t) (put-digits-at t) put-digits.Post
-returns t c = (rw (digits-none (c .before .before .args .k) (c .before .before .args .n) (c .if1 .taken)) wrote-none, omega arith)
+returns t c = let start = c .before .before in (rw (digits-none (start .args .k) (start .args .n) (c .if1 .taken)) wrote-none, omega arith)
 
 put-digit-requires : (t : ℕ) → put-digits-lts.Need-put-digit-requires (uses t) (put-digits-at t) put-digits.Post
 put-digit-requires t c κs = search needs
@@ -36,10 +36,11 @@ same-length t c = search needs
 
 returns-2 : (t : ℕ) → put-digits-lts.Need-returns-2 (uses t) (put-digits-at t) put-digits.Post
 returns-2 t c =
-    let at-if2 = c .before .before .before .before in
-    let at-if1 = at-if2 .before in
-    let start = at-if1 .before .before in
-    (rw (digits-one (start .args .k) (start .args .n) (at-if1 .if1 .left) (at-if2 .if2 .taken)) (c .before .before .put-digit .ensures), omega (arith, c .before .before .put-digit .ensures .ends))
+    let put-digit = c .before .before .put-digit in
+    let if2 = c .before .before .before .before .if2 in
+    let if1 = c .before .before .before .before .before .if1 in
+    let start = c .before .before .before .before .before .before .before in
+    (rw (digits-one (start .args .k) (start .args .n) (if1 .left) (omega (arith, if2 .taken))) (put-digit .ensures), omega (arith, put-digit .ensures .ends))
 
 sub-put-digits : (t : ℕ) → put-digits-lts.Need-sub-put-digits (uses t) (put-digits-at t) put-digits.Post
 sub-put-digits t c = search needs
@@ -55,11 +56,15 @@ same-length-2 t c = search needs
 
 returns-3 : (t : ℕ) → put-digits-lts.Need-returns-3 (uses t) (put-digits-at t) put-digits.Post
 returns-3 t c =
-    let at-put-digits = c .before .before .before .before .before .before in
-    let at-if2 = at-put-digits .before .before in
-    let at-if1 = at-if2 .before in
-    let start = at-if1 .before .before in
-    (rw (digits-more (start .args .k) (start .args .n) (at-if1 .if1 .left) (at-if2 .if2 .left)) (wrote-then (at-put-digits .put-digits .ensures .0) (omega (arith, at-put-digits .put-digits .ensures .0 .ends, at-put-digits .put-digits .ensures .1)) (c .before .before .put-digit2 .ensures)), omega (arith, c .before .before .put-digit2 .ensures .ends, at-put-digits .put-digits .ensures .1))
+    let put-digit = c .before .before .put-digit2 in
+    let put-digits = c .before .before .before .before .before .before .put-digits in
+    let if2 = c .before .before .before .before .before .before .before .before .if2 in
+    let if1 = c .before .before .before .before .before .before .before .before .before .if1 in
+    let start = c .before .before .before .before .before .before .before .before .before .before .before in (
+      rw (digits-more (start .args .k) (start .args .n) (if1 .left) (omega (arith, if2 .left)))
+          (wrote-then (put-digits .ensures .0) (omega (arith, put-digits .ensures .0 .ends, put-digits .ensures .1)) (put-digit .ensures)),
+      omega (arith, put-digit .ensures .ends, put-digits .ensures .1),
+    )
 
 pub +put-digits-spec : {M : Type 1} → statement M
 +put-digits-spec = close μ-put-digits (λ t. put-digits-lts.spec (uses t) (put-digits-at t) put-digits.Post (returns t) (put-digit-requires t) (same-length t) (returns-2 t) (sub-put-digits t) (put-digits-requires t) (put-digit-requires-2 t) (same-length-2 t) (returns-3 t))

@@ -7,12 +7,11 @@ use Rattle.lines.proofs.refused_line.Tie as tie
 
 returns : tie.Need-returns
 returns c =
-    let at-put-digits = c .before .before .before .before .before .before .before in
-    let at-put = at-put-digits .before .before .before .before in
-    let start = at-put .before .before .before .before in
-    let fits = start .pre in
-    wrote-then (at-put .put .ensures) (omega arith)
-    (wrote-then (at-put-digits .put-digits .ensures .0) (omega (arith, at-put-digits .put-digits .ensures .0 .ends, at-put-digits .put-digits .ensures .1))
+    let number = c .before .before .before .before .before .before .before .put-digits in
+    let word = c .before .before .before .before .before .before .before .before .before .before .before .put in
+    let fits = c .before .before .before .before .before .before .before .before .before .before .before .before .before .before .before .pre in
+    wrote-then (word .ensures) (omega arith)
+    (wrote-then (number .ensures .0) (omega (arith, number .ensures .0 .ends, number .ensures .1))
     (c .before .before .put2 .ensures))
 
 pub refused-line-spec : {M : Type 1} → statement M
