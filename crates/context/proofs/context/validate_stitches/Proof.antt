@@ -40,53 +40,28 @@ returns : tie.Need-returns Inv-loop μ-loop
 returns c = rw (c .before .before .before .loop .inv .2) (each-none _ _ (stitches-none _ _ _ (c .before .before .before .loop .inv .1) (c .before .before .stitch-view .ensures) (c .enum-told .given .1)))
 
 validate-stitch-requires : tie.Need-validate-stitch-requires Inv-loop μ-loop
-validate-stitch-requires c κs =
-    let at-w = c .before .before .before .before in
-    let at-stitch-view = at-w .before .before in
-    let at-loop = at-stitch-view .before in
-    let start = at-loop .before .before .before .before .before .before .before .before .before in
-    (start .pre .0, (start .pre .1 .0, (stitch-seen-ready _ _ _ (at-loop .loop .inv .1) (at-stitch-view .stitch-view .ensures) _ (at-w .w .given .1), (omega (arith, at-loop .loop .inv .0, start .pre .1 .1 .0), start .pre .1 .1 .1))))
+validate-stitch-requires c κs = (c .before .before .before .before .before .before .before .before .before .before .before .before .before .before .before .before .pre .0, (c .before .before .before .before .before .before .before .before .before .before .before .before .before .before .before .before .pre .1 .0, (stitch-seen-ready _ _ _ (c .before .before .before .before .before .before .before .loop .inv .1) (c .before .before .before .before .before .before .stitch-view .ensures) _ (c .before .before .before .before .w .given .1), (omega (arith, c .before .before .before .before .before .before .before .loop .inv .0, c .before .before .before .before .before .before .before .before .before .before .before .before .before .before .before .before .pre .1 .1 .0), c .before .before .before .before .before .before .before .before .before .before .before .before .before .before .before .before .pre .1 .1 .1))))
 
 same-length-3 : tie.Need-same-length-3 Inv-loop μ-loop
 same-length-3 c = omega (arith, c .before .before .before .loop .inv .0)
 
 same-length-4 : tie.Need-same-length-4 Inv-loop μ-loop
-same-length-4 c =
-    let at-loop = c .before .before .before .before .before .before .before .before .before .before .before .before .before .before .before .before in
-    omega (arith, at-loop .loop .inv .0)
+same-length-4 c = omega (arith, c .before .before .before .before .before .before .before .before .before .before .before .before .before .before .before .before .loop .inv .0)
 
 returns-2 : tie.Need-returns-2 Inv-loop μ-loop
-returns-2 c =
-    let at-validate-stitch = c .before .before .before .before .before .before .before .before in
-    let at-w = at-validate-stitch .before .before .before .before .before in
-    let at-stitch-view = at-w .before .before in
-    let at-loop = at-stitch-view .before in
-    rw (at-loop .loop .inv .2) (each-found _ _ (stitch-viewed _ _ _ _ (at-stitch-view .stitch-view .ensures) (at-w .w .given .1)) (at-validate-stitch .validate-stitch .ensures) (c .enum-told2 .given .1))
+returns-2 c = rw (c .before .before .before .before .before .before .before .before .before .before .before .before .before .before .before .before .loop .inv .2) (each-found _ _ (stitch-viewed _ _ _ _ (c .before .before .before .before .before .before .before .before .before .before .before .before .before .before .before .stitch-view .ensures) (c .before .before .before .before .before .before .before .before .before .before .before .before .before .w .given .1)) (c .before .before .before .before .before .before .before .before .validate-stitch .ensures) (c .enum-told2 .given .1))
 
 loop-less : tie.Need-loop-less Inv-loop μ-loop
-loop-less c =
-    let at-w = c .before .before .before .before .before .before .before .before .before .before .before .before .before in
-    let at-stitch-view = at-w .before .before in
-    let at-loop = at-stitch-view .before in
-    stitches-fewer _ _ _ (at-loop .loop .inv .1) (at-stitch-view .stitch-view .ensures) _ (at-w .w .given .1)
+loop-less c = stitches-fewer _ _ _ (c .before .before .before .before .before .before .before .before .before .before .before .before .before .before .before .before .loop .inv .1) (c .before .before .before .before .before .before .before .before .before .before .before .before .before .before .before .stitch-view .ensures) _ (c .before .before .before .before .before .before .before .before .before .before .before .before .before .w .given .1)
 
 loop-again : tie.Need-loop-again Inv-loop μ-loop
-loop-again c =
-    let at-validate-stitch = c .before .before .before .before .before .before .before .before in
-    let at-w = at-validate-stitch .before .before .before .before .before in
-    let at-stitch-view = at-w .before .before in
-    let at-loop = at-stitch-view .before in
-    (omega (arith, at-loop .loop .inv .0), stitches-after _ _ _ (at-loop .loop .inv .1) (at-stitch-view .stitch-view .ensures) _ (at-w .w .given .1), at-loop .loop .inv .2 ∙ each-passed _ _ (stitch-viewed _ _ _ _ (at-stitch-view .stitch-view .ensures) (at-w .w .given .1)) (at-validate-stitch .validate-stitch .ensures) (c .enum-told3 .given .1))
+loop-again c = (omega (arith, c .before .before .before .before .before .before .before .before .before .before .before .before .before .before .before .before .loop .inv .0), stitches-after _ _ _ (c .before .before .before .before .before .before .before .before .before .before .before .before .before .before .before .before .loop .inv .1) (c .before .before .before .before .before .before .before .before .before .before .before .before .before .before .before .stitch-view .ensures) _ (c .before .before .before .before .before .before .before .before .before .before .before .before .before .w .given .1), c .before .before .before .before .before .before .before .before .before .before .before .before .before .before .before .before .loop .inv .2 ∙ each-passed _ _ (stitch-viewed _ _ _ _ (c .before .before .before .before .before .before .before .before .before .before .before .before .before .before .before .stitch-view .ensures) (c .before .before .before .before .before .before .before .before .before .before .before .before .before .w .given .1)) (c .before .before .before .before .before .before .before .before .validate-stitch .ensures) (c .enum-told3 .given .1))
 
 same-length-5 : tie.Need-same-length-5 Inv-loop μ-loop
-same-length-5 c =
-    let at-loop = c .before .before .before .before .before .before .before .before .before .before .before .before .before .before .before .before in
-    omega (arith, at-loop .loop .inv .0)
+same-length-5 c = omega (arith, c .before .before .before .before .before .before .before .before .before .before .before .before .before .before .before .before .loop .inv .0)
 
 same-length-6 : tie.Need-same-length-6 Inv-loop μ-loop
-same-length-6 c =
-    let at-loop = c .before .before .before .before .before .before .before .before .before .before .before .before .before .before .before .before in
-    omega (arith, at-loop .loop .inv .0)
+same-length-6 c = omega (arith, c .before .before .before .before .before .before .before .before .before .before .before .before .before .before .before .before .loop .inv .0)
 
 pub validate-stitches-spec : {M : Type 1} → statement M
 validate-stitches-spec =

@@ -20,131 +20,70 @@ abbrev μ-loop : tie.MeasureT-loop
 μ-loop first many file c index count functions hints scope items declared gathers₀ batch₀ scratch₀ from to skip₀ i₀ gathers batch scratch skip i = items - i
 
 loop-holds : tie.Need-loop-holds Inv-loop μ-loop
-loop-holds c =
-    let start = c .before .before .before .before .before .before .before .before .before .before .before .before in
-    (omega (arith, c .before .gathers .given), start .pre .1 .1 .1 .0 .window, unbroken-start _ _ _ _, gathered-start _ _ _ _)
+loop-holds c = (omega (arith, c .before .gathers .given), c .before .before .before .before .before .before .before .before .before .before .before .before .pre .1 .1 .1 .0 .window, unbroken-start _ _ _ _, gathered-start _ _ _ _)
 
 fetch-requires : tie.Need-fetch-requires Inv-loop μ-loop
-fetch-requires c κs =
-    let start = c .before .before .before .before .before .before .before .before .before .before .before .before .before .before .before in
-    (start .pre .1 .1 .0 .body, (c .before .before .loop .inv .1, omega (arith, c .before .before .loop .inv .0, start .pre .1 .1 .1 .0 .room)))
+fetch-requires c κs = (c .before .before .before .before .before .before .before .before .before .before .before .before .before .before .before .pre .1 .1 .0 .body, (c .before .before .loop .inv .1, omega (arith, c .before .before .loop .inv .0, c .before .before .before .before .before .before .before .before .before .before .before .before .before .before .before .pre .1 .1 .1 .0 .room)))
 
 cast-place : tie.Need-cast-place Inv-loop μ-loop
 cast-place c = omega (arith, c .slice-known6 .given (2 * (c .before .before .before .before .before .before .loop .i - c .before .before .before .fetch .result)))
 
 is-item-clear-requires : tie.Need-is-item-clear-requires Inv-loop μ-loop
-is-item-clear-requires c κs =
-    let at-loop = c .before .before .before .before .before .before .before .before .before .before in
-    let start = at-loop .before .before .before .before .before .before .before .before .before .before .before .before .before in
-    (start .pre .0, (start .pre .1 .0, (start .pre .1 .1 .0, (omega (arith, at-loop .loop .inv .0, start .pre .1 .1 .1 .1 .0), (c .before .before .sort-at .ensures, (start .pre .1 .1 .1 .1 .1, at-loop .loop .inv .3))))))
+is-item-clear-requires c κs = (c .before .before .before .before .before .before .before .before .before .before .before .before .before .before .before .before .before .before .before .before .before .before .before .pre .0, (c .before .before .before .before .before .before .before .before .before .before .before .before .before .before .before .before .before .before .before .before .before .before .before .pre .1 .0, (c .before .before .before .before .before .before .before .before .before .before .before .before .before .before .before .before .before .before .before .before .before .before .before .pre .1 .1 .0, (omega (arith, c .before .before .before .before .before .before .before .before .before .before .loop .inv .0, c .before .before .before .before .before .before .before .before .before .before .before .before .before .before .before .before .before .before .before .before .before .before .before .pre .1 .1 .1 .1 .0), (c .before .before .sort-at .ensures, (c .before .before .before .before .before .before .before .before .before .before .before .before .before .before .before .before .before .before .before .before .before .before .before .pre .1 .1 .1 .1 .1, c .before .before .before .before .before .before .before .before .before .before .loop .inv .3))))))
 
 rewind-requires : tie.Need-rewind-requires Inv-loop μ-loop
-rewind-requires c κs =
-    let at-fetch = c .before .before .before .before .before .before .before .before .before .before .before .before in
-    let start = at-fetch .before .before .before .before .before .before .before .before .before .before .before .before .before .before .before .before in
-    (start .pre .1 .1 .0 .body, at-fetch .fetch .ensures .window)
+rewind-requires c κs = (c .before .before .before .before .before .before .before .before .before .before .before .before .before .before .before .before .before .before .before .before .before .before .before .before .before .before .before .before .pre .1 .1 .0 .body, c .before .before .before .before .before .before .before .before .before .before .before .before .fetch .ensures .window)
 
 same-length : tie.Need-same-length Inv-loop μ-loop
-same-length c =
-    let at-fetch = c .before .before .before .before .before .before .before .before .before .before .before .before .before .before .before in
-    let at-loop = at-fetch .before .before .before in
-    omega (arith, at-loop .loop .inv .0, at-fetch .fetch .ensures .room)
+same-length c = omega (arith, c .before .before .before .before .before .before .before .before .before .before .before .before .before .before .before .before .before .before .loop .inv .0, c .before .before .before .before .before .before .before .before .before .before .before .before .before .before .before .fetch .ensures .room)
 
 same-length-2 : tie.Need-same-length-2 Inv-loop μ-loop
-same-length-2 c =
-    let at-loop = c .before .before .before .before .before .before .before .before .before .before .before .before .before .before .before .before .before .before in
-    omega (arith, at-loop .loop .inv .0)
+same-length-2 c = omega (arith, c .before .before .before .before .before .before .before .before .before .before .before .before .before .before .before .before .before .before .loop .inv .0)
 
 returns : tie.Need-returns Inv-loop μ-loop
-returns c =
-    let at-if1 = c .before .before .before .before in
-    let at-is-item-clear = at-if1 .before .before .before in
-    let at-fetch = at-is-item-clear .before .before .before .before .before .before .before .before in
-    let at-loop-test = at-fetch .before .before in
-    let at-loop = at-loop-test .before in
-    let start = at-loop .before .before .before .before .before .before .before .before .before .before .before .before .before in
-    record { answer = unbroken-broken (at-loop .loop .inv .2) _ _ (fetched-item (at-fetch .fetch .ensures) (omega (arith, at-loop-test .loop-test, start .pre .1 .1 .1 .0 .counts))) (at-is-item-clear .is-item-clear .ensures) (not-taken _ (at-if1 .if1 .taken)); held = record { counts = start .pre .1 .1 .1 .0 .counts; window = c .before .before .rewind .ensures; room = omega (arith, at-loop .loop .inv .0, at-fetch .fetch .ensures .room, start .pre .1 .1 .1 .0 .room) } }
+returns c = record { answer = unbroken-broken (c .before .before .before .before .before .before .before .before .before .before .before .before .before .before .before .before .before .before .loop .inv .2) _ _ (fetched-item (c .before .before .before .before .before .before .before .before .before .before .before .before .before .before .before .fetch .ensures) (omega (arith, c .before .before .before .before .before .before .before .before .before .before .before .before .before .before .before .before .before .loop-test, c .before .before .before .before .before .before .before .before .before .before .before .before .before .before .before .before .before .before .before .before .before .before .before .before .before .before .before .before .before .before .before .pre .1 .1 .1 .0 .counts))) (c .before .before .before .before .before .before .before .is-item-clear .ensures) (not-taken _ (c .before .before .before .before .if1 .taken)); held = record { counts = c .before .before .before .before .before .before .before .before .before .before .before .before .before .before .before .before .before .before .before .before .before .before .before .before .before .before .before .before .before .before .before .pre .1 .1 .1 .0 .counts; window = c .before .before .rewind .ensures; room = omega (arith, c .before .before .before .before .before .before .before .before .before .before .before .before .before .before .before .before .before .before .loop .inv .0, c .before .before .before .before .before .before .before .before .before .before .before .before .before .before .before .fetch .ensures .room, c .before .before .before .before .before .before .before .before .before .before .before .before .before .before .before .before .before .before .before .before .before .before .before .before .before .before .before .before .before .before .before .pre .1 .1 .1 .0 .room) } }
 
 loop-again : tie.Need-loop-again Inv-loop μ-loop
-loop-again c =
-    let at-if1 = c .before .before .before .before in
-    let at-is-item-clear = at-if1 .before .before .before in
-    let at-fetch = at-is-item-clear .before .before .before .before .before .before .before .before in
-    let at-loop-test = at-fetch .before .before in
-    let at-loop = at-loop-test .before in
-    let start = at-loop .before .before .before .before .before .before .before .before .before .before .before .before .before in
-    (omega (arith, at-loop .loop .inv .0, at-loop-test .loop-test, at-fetch .fetch .ensures .early, at-fetch .fetch .ensures .room), at-fetch .fetch .ensures .window, unbroken-next (at-loop .loop .inv .2) _ _ (fetched-item (at-fetch .fetch .ensures) (omega (arith, at-loop-test .loop-test, start .pre .1 .1 .1 .0 .counts))) (at-is-item-clear .is-item-clear .ensures) (not-left _ (at-if1 .if1 .left)), gathered-next (at-loop .loop .inv .3) (fetched-item (at-fetch .fetch .ensures) (omega (arith, at-loop-test .loop-test, start .pre .1 .1 .1 .0 .counts))) (c .before .before .pass-item .ensures))
+loop-again c = (omega (arith, c .before .before .before .before .before .before .before .before .before .before .before .before .before .before .before .before .before .before .loop .inv .0, c .before .before .before .before .before .before .before .before .before .before .before .before .before .before .before .before .before .loop-test, c .before .before .before .before .before .before .before .before .before .before .before .before .before .before .before .fetch .ensures .early, c .before .before .before .before .before .before .before .before .before .before .before .before .before .before .before .fetch .ensures .room), c .before .before .before .before .before .before .before .before .before .before .before .before .before .before .before .fetch .ensures .window, unbroken-next (c .before .before .before .before .before .before .before .before .before .before .before .before .before .before .before .before .before .before .loop .inv .2) _ _ (fetched-item (c .before .before .before .before .before .before .before .before .before .before .before .before .before .before .before .fetch .ensures) (omega (arith, c .before .before .before .before .before .before .before .before .before .before .before .before .before .before .before .before .before .loop-test, c .before .before .before .before .before .before .before .before .before .before .before .before .before .before .before .before .before .before .before .before .before .before .before .before .before .before .before .before .before .before .before .pre .1 .1 .1 .0 .counts))) (c .before .before .before .before .before .before .before .is-item-clear .ensures) (not-left _ (c .before .before .before .before .if1 .left)), gathered-next (c .before .before .before .before .before .before .before .before .before .before .before .before .before .before .before .before .before .before .loop .inv .3) (fetched-item (c .before .before .before .before .before .before .before .before .before .before .before .before .before .before .before .fetch .ensures) (omega (arith, c .before .before .before .before .before .before .before .before .before .before .before .before .before .before .before .before .before .loop-test, c .before .before .before .before .before .before .before .before .before .before .before .before .before .before .before .before .before .before .before .before .before .before .before .before .before .before .before .before .before .before .before .pre .1 .1 .1 .0 .counts))) (c .before .before .pass-item .ensures))
 
 rewind-requires-2 : tie.Need-rewind-requires-2 Inv-loop μ-loop
-rewind-requires-2 c κs =
-    let start = c .before .before .before .before .before .before .before .before .before .before .before .before .before .before .before in
-    (start .pre .1 .1 .0 .body, c .before .before .loop .inv .1)
+rewind-requires-2 c κs = (c .before .before .before .before .before .before .before .before .before .before .before .before .before .before .before .pre .1 .1 .0 .body, c .before .before .loop .inv .1)
 
 same-length-3 : tie.Need-same-length-3 Inv-loop μ-loop
-same-length-3 c =
-    let at-loop = c .before .before .before .before .before .before .before .before .before .before .before .before .before .before .before .before .before .before in
-    omega (arith, at-loop .loop .inv .0)
+same-length-3 c = omega (arith, c .before .before .before .before .before .before .before .before .before .before .before .before .before .before .before .before .before .before .loop .inv .0)
 
 same-length-4 : tie.Need-same-length-4 Inv-loop μ-loop
 same-length-4 c = omega (arith, c .before .before .before .before .before .loop .inv .0)
 
 returns-2 : tie.Need-returns-2 Inv-loop μ-loop
-returns-2 c =
-    let at-loop-test = c .before .before .before .before in
-    let at-loop = at-loop-test .before in
-    let start = at-loop .before .before .before .before .before .before .before .before .before .before .before .before .before in
-    record { answer = unbroken-end (at-loop .loop .inv .2) (start .pre .1 .1 .1 .0 .counts) (omega (arith, at-loop-test .loop-test)); held = record { counts = start .pre .1 .1 .1 .0 .counts; window = c .before .before .rewind2 .ensures; room = omega (arith, at-loop .loop .inv .0, start .pre .1 .1 .1 .0 .room) } }
+returns-2 c = record { answer = unbroken-end (c .before .before .before .before .before .loop .inv .2) (c .before .before .before .before .before .before .before .before .before .before .before .before .before .before .before .before .before .before .pre .1 .1 .1 .0 .counts) (omega (arith, c .before .before .before .before .loop-test)); held = record { counts = c .before .before .before .before .before .before .before .before .before .before .before .before .before .before .before .before .before .before .pre .1 .1 .1 .0 .counts; window = c .before .before .rewind2 .ensures; room = omega (arith, c .before .before .before .before .before .loop .inv .0, c .before .before .before .before .before .before .before .before .before .before .before .before .before .before .before .before .before .before .pre .1 .1 .1 .0 .room) } }
 
 pass-item-requires : tie.Need-pass-item-requires Inv-loop μ-loop
 pass-item-requires c κs = c .before .before .before .before .before .before .before .sort-at .ensures
 
 mul-at : tie.Need-mul-at Inv-loop μ-loop
-mul-at c =
-    let at-loop = c .before .before .before .before .before in
-    let at-good = at-loop .before .before .before .before .before .before .before .before .before .before .before .before .before in
-    let good = at-good .good in let within = c .before .before .fetch .ensures .within in let room = c .before .before .fetch .ensures .room in let early = c .before .before .fetch .ensures .early in let inv = at-loop .loop .inv .0 in search needs
+mul-at c = let good = c .before .before .before .before .before .before .before .before .before .before .before .before .before .before .before .before .before .before .good in let within = c .before .before .fetch .ensures .within in let room = c .before .before .fetch .ensures .room in let early = c .before .before .fetch .ensures .early in let inv = c .before .before .before .before .before .loop .inv .0 in search needs
 
 mul-place : tie.Need-mul-place Inv-loop μ-loop
-mul-place c =
-    let at-loop = c .before .before .before .before .before in
-    let at-good = at-loop .before .before .before .before .before .before .before .before .before .before .before .before .before in
-    let good = at-good .good in let within = c .before .before .fetch .ensures .within in let room = c .before .before .fetch .ensures .room in let early = c .before .before .fetch .ensures .early in let inv = at-loop .loop .inv .0 in search needs
+mul-place c = let good = c .before .before .before .before .before .before .before .before .before .before .before .before .before .before .before .before .before .before .good in let within = c .before .before .fetch .ensures .within in let room = c .before .before .fetch .ensures .room in let early = c .before .before .fetch .ensures .early in let inv = c .before .before .before .before .before .loop .inv .0 in search needs
 
 mul-tag : tie.Need-mul-tag Inv-loop μ-loop
-mul-tag c =
-    let at-loop = c .before .before .before .before .before .before in
-    let at-good = at-loop .before .before .before .before .before .before .before .before .before .before .before .before .before in
-    let good = at-good .good in let within = c .before .before .before .fetch .ensures .within in let room = c .before .before .before .fetch .ensures .room in let early = c .before .before .before .fetch .ensures .early in let inv = at-loop .loop .inv .0 in search needs
+mul-tag c = let good = c .before .before .before .before .before .before .before .before .before .before .before .before .before .before .before .before .before .before .before .good in let within = c .before .before .before .fetch .ensures .within in let room = c .before .before .before .fetch .ensures .room in let early = c .before .before .before .fetch .ensures .early in let inv = c .before .before .before .before .before .before .loop .inv .0 in search needs
 
 add-tag : tie.Need-add-tag Inv-loop μ-loop
-add-tag c =
-    let at-loop = c .before .before .before .before .before .before in
-    let at-good = at-loop .before .before .before .before .before .before .before .before .before .before .before .before .before in
-    let good = at-good .good in let within = c .before .before .before .fetch .ensures .within in let room = c .before .before .before .fetch .ensures .room in let early = c .before .before .before .fetch .ensures .early in let inv = at-loop .loop .inv .0 in search needs
+add-tag c = let good = c .before .before .before .before .before .before .before .before .before .before .before .before .before .before .before .before .before .before .before .good in let within = c .before .before .before .fetch .ensures .within in let room = c .before .before .before .fetch .ensures .room in let early = c .before .before .before .fetch .ensures .early in let inv = c .before .before .before .before .before .before .loop .inv .0 in search needs
 
 slice-read-place : tie.Need-slice-read-place Inv-loop μ-loop
-slice-read-place c =
-    let at-loop = c .before .before .before .before .before .before in
-    let at-good = at-loop .before .before .before .before .before .before .before .before .before .before .before .before .before in
-    let good = at-good .good in let within = c .before .before .before .fetch .ensures .within in let room = c .before .before .before .fetch .ensures .room in let early = c .before .before .before .fetch .ensures .early in let inv = at-loop .loop .inv .0 in search needs
+slice-read-place c = let good = c .before .before .before .before .before .before .before .before .before .before .before .before .before .before .before .before .before .before .before .good in let within = c .before .before .before .fetch .ensures .within in let room = c .before .before .before .fetch .ensures .room in let early = c .before .before .before .fetch .ensures .early in let inv = c .before .before .before .before .before .before .loop .inv .0 in search needs
 
 slice-read-tag : tie.Need-slice-read-tag Inv-loop μ-loop
-slice-read-tag c =
-    let at-fetch = c .before .before .before .before in
-    let at-loop = at-fetch .before .before .before in
-    let at-good = at-loop .before .before .before .before .before .before .before .before .before .before .before .before .before in
-    let good = at-good .good in let within = at-fetch .fetch .ensures .within in let room = at-fetch .fetch .ensures .room in let early = at-fetch .fetch .ensures .early in let inv = at-loop .loop .inv .0 in search needs
+slice-read-tag c = let good = c .before .before .before .before .before .before .before .before .before .before .before .before .before .before .before .before .before .before .before .before .good in let within = c .before .before .before .before .fetch .ensures .within in let room = c .before .before .before .before .fetch .ensures .room in let early = c .before .before .before .before .fetch .ensures .early in let inv = c .before .before .before .before .before .before .before .loop .inv .0 in search needs
 
 add-i : tie.Need-add-i Inv-loop μ-loop
-add-i c =
-    let at-loop-test = c .before .before .before .before .before .before .before .before .before .before .before .before .before .before .before .before .before in
-    let at-fits = at-loop-test .before .before .before .before .before .before .before .before .before .before .before .before .before .before in
-    let fits = at-fits .fits in let less = at-loop-test .loop-test in search needs
+add-i c = let fits = c .before .before .before .before .before .before .before .before .before .before .before .before .before .before .before .before .before .before .before .before .before .before .before .before .before .before .before .before .before .before .before .fits in let less = c .before .before .before .before .before .before .before .before .before .before .before .before .before .before .before .before .before .loop-test in search needs
 
 loop-less : tie.Need-loop-less Inv-loop μ-loop
-loop-less c =
-    let at-loop-test = c .before .before .before .before .before .before .before .before .before .before .before .before .before .before .before .before .before in
-    omega (arith, at-loop-test .loop-test)
+loop-less c = omega (arith, c .before .before .before .before .before .before .before .before .before .before .before .before .before .before .before .before .before .loop-test)
 
 pub is-body-clear-spec : {M : Type 1} → statement M
 is-body-clear-spec =

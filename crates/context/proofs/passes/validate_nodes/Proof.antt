@@ -23,59 +23,31 @@ loop-holds : tie.Need-loop-holds Inv-loop μ-loop
 loop-holds c = (omega arith, c .before .before .before .before .before .before .before .pre .1 .1 .0 .window, clean-start _ _ _ _)
 
 fetch-requires : tie.Need-fetch-requires Inv-loop μ-loop
-fetch-requires c κs =
-    let start = c .before .before .before .before .before .before .before .before .before .before in
-    (start .pre .1 .0 .body, (c .before .before .loop .inv .1, omega (arith, c .before .before .loop .inv .0, start .pre .1 .1 .0 .room)))
+fetch-requires c κs = (c .before .before .before .before .before .before .before .before .before .before .pre .1 .0 .body, (c .before .before .loop .inv .1, omega (arith, c .before .before .loop .inv .0, c .before .before .before .before .before .before .before .before .before .before .pre .1 .1 .0 .room)))
 
 cast-place : tie.Need-cast-place Inv-loop μ-loop
 cast-place c = omega (arith, c .slice-known4 .given (2 * (c .before .before .before .before .before .before .loop .i - c .before .before .before .fetch .result)))
 
 judge-requires : tie.Need-judge-requires Inv-loop μ-loop
-judge-requires c κs =
-    let at-loop = c .before .before .before .before .before .before .before .before .before .before in
-    let start = at-loop .before .before .before .before .before .before .before .before in
-    (start .pre .0, (start .pre .1 .0, (omega (arith, at-loop .loop .inv .0, start .pre .1 .1 .1 .0), (c .before .before .sort-at .ensures, (start .pre .1 .1 .1 .1, gathered-none _ refl)))))
+judge-requires c κs = (c .before .before .before .before .before .before .before .before .before .before .before .before .before .before .before .before .before .before .pre .0, (c .before .before .before .before .before .before .before .before .before .before .before .before .before .before .before .before .before .before .pre .1 .0, (omega (arith, c .before .before .before .before .before .before .before .before .before .before .loop .inv .0, c .before .before .before .before .before .before .before .before .before .before .before .before .before .before .before .before .before .before .pre .1 .1 .1 .0), (c .before .before .sort-at .ensures, (c .before .before .before .before .before .before .before .before .before .before .before .before .before .before .before .before .before .before .pre .1 .1 .1 .1, gathered-none _ refl)))))
 
 named-at-requires : tie.Need-named-at-requires Inv-loop μ-loop
-named-at-requires c κs =
-    let at-slice-known4 = c .before .before .before .before .before .before .before .before .before .before in
-    let at-fetch = at-slice-known4 .before .before .before in
-    let at-loop = at-fetch .before .before .before in
-    omega (arith, at-slice-known4 .slice-known4 .given (2 * (at-loop .loop .i - at-fetch .fetch .result)))
+named-at-requires c κs = omega (arith, c .before .before .before .before .before .before .before .before .before .before .slice-known4 .given (2 * (c .before .before .before .before .before .before .before .before .before .before .before .before .before .before .before .before .loop .i - c .before .before .before .before .before .before .before .before .before .before .before .before .before .fetch .result)))
 
 same-length : tie.Need-same-length Inv-loop μ-loop
-same-length c =
-    let at-fetch = c .before .before .before .before .before .before .before .before .before .before .before .before .before .before .before in
-    let at-loop = at-fetch .before .before .before in
-    omega (arith, at-loop .loop .inv .0, at-fetch .fetch .ensures .room)
+same-length c = omega (arith, c .before .before .before .before .before .before .before .before .before .before .before .before .before .before .before .before .before .before .loop .inv .0, c .before .before .before .before .before .before .before .before .before .before .before .before .before .before .before .fetch .ensures .room)
 
 same-length-2 : tie.Need-same-length-2 Inv-loop μ-loop
-same-length-2 c =
-    let at-loop = c .before .before .before .before .before .before .before .before .before .before .before .before .before .before .before .before .before .before in
-    omega (arith, at-loop .loop .inv .0)
+same-length-2 c = omega (arith, c .before .before .before .before .before .before .before .before .before .before .before .before .before .before .before .before .before .before .loop .inv .0)
 
 returns : tie.Need-returns Inv-loop μ-loop
-returns c =
-    let at-judge = c .before .before .before .before .before .before .before in
-    let at-fetch = at-judge .before .before .before .before .before .before .before .before in
-    let at-loop-test = at-fetch .before .before in
-    let at-loop = at-loop-test .before in
-    let start = at-loop .before .before .before .before .before .before .before .before in
-    record { answer = clean-found (at-loop .loop .inv .2) _ _ (fetched-item (at-fetch .fetch .ensures) (omega (arith, at-loop-test .loop-test, start .pre .1 .1 .0 .counts))) (at-judge .judge .ensures) (c .before .before .before .judged .given .1) (c .before .named-at .ensures) (c .breach-at .ensures); held = λ e. absurd (never-clear e) }
+returns c = record { answer = clean-found (c .before .before .before .before .before .before .before .before .before .before .before .before .before .before .before .before .before .before .loop .inv .2) _ _ (fetched-item (c .before .before .before .before .before .before .before .before .before .before .before .before .before .before .before .fetch .ensures) (omega (arith, c .before .before .before .before .before .before .before .before .before .before .before .before .before .before .before .before .before .loop-test, c .before .before .before .before .before .before .before .before .before .before .before .before .before .before .before .before .before .before .before .before .before .before .before .before .before .before .pre .1 .1 .0 .counts))) (c .before .before .before .before .before .before .before .judge .ensures) (c .before .before .before .judged .given .1) (c .before .named-at .ensures) (c .breach-at .ensures); held = λ e. absurd (never-clear e) }
 
 loop-again : tie.Need-loop-again Inv-loop μ-loop
-loop-again c =
-    let at-judge = c .before .before .before .before in
-    let at-fetch = at-judge .before .before .before .before .before .before .before .before in
-    let at-loop-test = at-fetch .before .before in
-    let at-loop = at-loop-test .before in
-    let start = at-loop .before .before .before .before .before .before .before .before in
-    (omega (arith, at-loop .loop .inv .0, at-loop-test .loop-test, at-fetch .fetch .ensures .early, at-fetch .fetch .ensures .room), at-fetch .fetch .ensures .window, clean-next (at-loop .loop .inv .2) _ _ (fetched-item (at-fetch .fetch .ensures) (omega (arith, at-loop-test .loop-test, start .pre .1 .1 .0 .counts))) (at-judge .judge .ensures) (c .enum-told .given .1))
+loop-again c = (omega (arith, c .before .before .before .before .before .before .before .before .before .before .before .before .before .before .before .loop .inv .0, c .before .before .before .before .before .before .before .before .before .before .before .before .before .before .loop-test, c .before .before .before .before .before .before .before .before .before .before .before .before .fetch .ensures .early, c .before .before .before .before .before .before .before .before .before .before .before .before .fetch .ensures .room), c .before .before .before .before .before .before .before .before .before .before .before .before .fetch .ensures .window, clean-next (c .before .before .before .before .before .before .before .before .before .before .before .before .before .before .before .loop .inv .2) _ _ (fetched-item (c .before .before .before .before .before .before .before .before .before .before .before .before .fetch .ensures) (omega (arith, c .before .before .before .before .before .before .before .before .before .before .before .before .before .before .loop-test, c .before .before .before .before .before .before .before .before .before .before .before .before .before .before .before .before .before .before .before .before .before .before .before .pre .1 .1 .0 .counts))) (c .before .before .before .before .judge .ensures) (c .enum-told .given .1))
 
 rewind-requires : tie.Need-rewind-requires Inv-loop μ-loop
-rewind-requires c κs =
-    let start = c .before .before .before .before .before .before .before .before .before .before in
-    (start .pre .1 .0 .body, c .before .before .loop .inv .1)
+rewind-requires c κs = (c .before .before .before .before .before .before .before .before .before .before .pre .1 .0 .body, c .before .before .loop .inv .1)
 
 same-length-3 : tie.Need-same-length-3 Inv-loop μ-loop
 same-length-3 c = omega (arith, c .before .before .before .before .before .loop .inv .0)
@@ -84,48 +56,25 @@ same-length-4 : tie.Need-same-length-4 Inv-loop μ-loop
 same-length-4 c = omega (arith, c .before .before .before .before .before .loop .inv .0)
 
 returns-2 : tie.Need-returns-2 Inv-loop μ-loop
-returns-2 c =
-    let at-loop-test = c .before .before .before .before in
-    let at-loop = at-loop-test .before in
-    let start = at-loop .before .before .before .before .before .before .before .before in
-    record { answer = clean-end (at-loop .loop .inv .2) (start .pre .1 .1 .0 .counts) (omega (arith, at-loop-test .loop-test)); held = λ e. record { counts = start .pre .1 .1 .0 .counts; window = c .before .before .rewind .ensures; room = omega (arith, at-loop .loop .inv .0, start .pre .1 .1 .0 .room) } }
+returns-2 c = record { answer = clean-end (c .before .before .before .before .before .loop .inv .2) (c .before .before .before .before .before .before .before .before .before .before .before .before .before .pre .1 .1 .0 .counts) (omega (arith, c .before .before .before .before .loop-test)); held = λ e. record { counts = c .before .before .before .before .before .before .before .before .before .before .before .before .before .pre .1 .1 .0 .counts; window = c .before .before .rewind .ensures; room = omega (arith, c .before .before .before .before .before .loop .inv .0, c .before .before .before .before .before .before .before .before .before .before .before .before .before .pre .1 .1 .0 .room) } }
 
 mul-at : tie.Need-mul-at Inv-loop μ-loop
-mul-at c =
-    let at-loop = c .before .before .before .before .before in
-    let at-good = at-loop .before .before .before .before .before .before .before .before in
-    let good = at-good .good in let within = c .before .before .fetch .ensures .within in let room = c .before .before .fetch .ensures .room in let early = c .before .before .fetch .ensures .early in let inv = at-loop .loop .inv .0 in search needs
+mul-at c = let good = c .before .before .before .before .before .before .before .before .before .before .before .before .before .good in let within = c .before .before .fetch .ensures .within in let room = c .before .before .fetch .ensures .room in let early = c .before .before .fetch .ensures .early in let inv = c .before .before .before .before .before .loop .inv .0 in search needs
 
 mul-place : tie.Need-mul-place Inv-loop μ-loop
-mul-place c =
-    let at-loop = c .before .before .before .before .before in
-    let at-good = at-loop .before .before .before .before .before .before .before .before in
-    let good = at-good .good in let within = c .before .before .fetch .ensures .within in let room = c .before .before .fetch .ensures .room in let early = c .before .before .fetch .ensures .early in let inv = at-loop .loop .inv .0 in search needs
+mul-place c = let good = c .before .before .before .before .before .before .before .before .before .before .before .before .before .good in let within = c .before .before .fetch .ensures .within in let room = c .before .before .fetch .ensures .room in let early = c .before .before .fetch .ensures .early in let inv = c .before .before .before .before .before .loop .inv .0 in search needs
 
 mul-tag : tie.Need-mul-tag Inv-loop μ-loop
-mul-tag c =
-    let at-loop = c .before .before .before .before .before .before in
-    let at-good = at-loop .before .before .before .before .before .before .before .before in
-    let good = at-good .good in let within = c .before .before .before .fetch .ensures .within in let room = c .before .before .before .fetch .ensures .room in let early = c .before .before .before .fetch .ensures .early in let inv = at-loop .loop .inv .0 in search needs
+mul-tag c = let good = c .before .before .before .before .before .before .before .before .before .before .before .before .before .before .good in let within = c .before .before .before .fetch .ensures .within in let room = c .before .before .before .fetch .ensures .room in let early = c .before .before .before .fetch .ensures .early in let inv = c .before .before .before .before .before .before .loop .inv .0 in search needs
 
 add-tag : tie.Need-add-tag Inv-loop μ-loop
-add-tag c =
-    let at-loop = c .before .before .before .before .before .before in
-    let at-good = at-loop .before .before .before .before .before .before .before .before in
-    let good = at-good .good in let within = c .before .before .before .fetch .ensures .within in let room = c .before .before .before .fetch .ensures .room in let early = c .before .before .before .fetch .ensures .early in let inv = at-loop .loop .inv .0 in search needs
+add-tag c = let good = c .before .before .before .before .before .before .before .before .before .before .before .before .before .before .good in let within = c .before .before .before .fetch .ensures .within in let room = c .before .before .before .fetch .ensures .room in let early = c .before .before .before .fetch .ensures .early in let inv = c .before .before .before .before .before .before .loop .inv .0 in search needs
 
 slice-read-place : tie.Need-slice-read-place Inv-loop μ-loop
-slice-read-place c =
-    let at-loop = c .before .before .before .before .before .before in
-    let at-good = at-loop .before .before .before .before .before .before .before .before in
-    let good = at-good .good in let within = c .before .before .before .fetch .ensures .within in let room = c .before .before .before .fetch .ensures .room in let early = c .before .before .before .fetch .ensures .early in let inv = at-loop .loop .inv .0 in search needs
+slice-read-place c = let good = c .before .before .before .before .before .before .before .before .before .before .before .before .before .before .good in let within = c .before .before .before .fetch .ensures .within in let room = c .before .before .before .fetch .ensures .room in let early = c .before .before .before .fetch .ensures .early in let inv = c .before .before .before .before .before .before .loop .inv .0 in search needs
 
 slice-read-tag : tie.Need-slice-read-tag Inv-loop μ-loop
-slice-read-tag c =
-    let at-fetch = c .before .before .before .before in
-    let at-loop = at-fetch .before .before .before in
-    let at-good = at-loop .before .before .before .before .before .before .before .before in
-    let good = at-good .good in let within = at-fetch .fetch .ensures .within in let room = at-fetch .fetch .ensures .room in let early = at-fetch .fetch .ensures .early in let inv = at-loop .loop .inv .0 in search needs
+slice-read-tag c = let good = c .before .before .before .before .before .before .before .before .before .before .before .before .before .before .before .good in let within = c .before .before .before .before .fetch .ensures .within in let room = c .before .before .before .before .fetch .ensures .room in let early = c .before .before .before .before .fetch .ensures .early in let inv = c .before .before .before .before .before .before .before .loop .inv .0 in search needs
 
 pub validate-nodes-spec : {M : Type 1} → statement M
 validate-nodes-spec =
