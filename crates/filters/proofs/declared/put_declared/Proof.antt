@@ -1,29 +1,29 @@
--- `put_declared`: each half gets its names; a filter without slots lacks nothing. Assumes nothing.
-use Prim.Native.Nat.{_/_}
+-- `put_declared`: each part gets its names; a filter without slots lacks nothing. Assumes nothing.
 use native.Mathlib.Omega.{arith}
-use lib.ListN.{length, length-take}
+use lib.ListN.{length-take}
 use Rattle.filters.proofs.Bodies.{declared-none, declared-put}
 use borrow.Author.Needs.{needs}
 use Rattle.filters.proofs.declared.put_declared.Statement.{statement}
 use Rattle.filters.proofs.declared.put_declared.Tie as tie
 
 slice-aggregate-put-names : tie.Need-slice-aggregate-put-names
-slice-aggregate-put-names c = omega (arith, length-take (length (c .before .before .before .before .before .args .filter .now) / 2) (c .before .before .before .before .before .args .filter .now))
+slice-aggregate-put-names c = omega (arith, length-take (c .before .split-at .result) (c .before .before .before .before .before .before .args .filter .now), c .before .split-at .ensures .1)
 
 returns : tie.Need-returns
 returns c = declared-none _ (c .if1 .taken)
 
 put-labels-requires : tie.Need-put-labels-requires
-put-labels-requires c κs = (c .before .before .before .before .before .before .before .before .before .before .before .before .before .pre .1 .0, (c .before .before .before .before .before .before .before .before .before .before .before .before .before .pre .1 .1 .0, omega (arith, c .before .before .before .before .before .before .before .before .before .before .before .before .before .pre .1 .1 .1, c .before .before .before .scratch .given)))
+put-labels-requires c κs = (c .before .before .before .before .before .before .before .before .before .before .before .before .before .before .pre .1 .0, (c .before .before .before .before .before .before .before .before .before .before .before .before .before .before .pre .1 .1 .0, omega (arith, c .before .before .before .before .before .before .before .before .before .before .before .before .before .before .pre .1 .1 .1, c .before .before .before .scratch .given)))
 
 returns-2 : tie.Need-returns-2
-returns-2 c = declared-put (c .before .before .before .before .before .before .before .before .before .before .before .before .before .before .before .before .before .before .args .filter .now) _ _ (omega (arith, c .before .before .before .before .before .before .before .before .before .before .filter .given, length-take (length (c .before .before .before .before .before .before .before .before .before .before .before .before .before .before .before .before .before .before .args .filter .now) / 2) (c .before .before .before .before .before .before .before .before .before .before .before .before .before .before .before .before .before .before .args .filter .now))) (omega (arith, c .before .before .before .filter2 .given)) (c .before .before .before .before .before .before .before .before .before .before .before .put-names .ensures) (c .before .before .before .before .put-labels .ensures)
+returns-2 c = declared-put (c .before .before .before .before .before .before .before .before .before .before .before .before .before .before .before .before .before .before .before .args .filter .now) _ _ (omega (arith, c .before .before .before .before .before .before .before .before .before .before .filter .given, length-take (c .before .before .before .before .before .before .before .before .before .before .before .before .before .before .split-at .result) (c .before .before .before .before .before .before .before .before .before .before .before .before .before .before .before .before .before .before .before .args .filter .now), c .before .before .before .before .before .before .before .before .before .before .before .before .before .before .split-at .ensures .1)) (omega (arith, c .before .before .before .filter2 .given)) (c .before .before .before .before .before .before .before .before .before .before .before .before .before .before .split-at .ensures .1) (c .before .before .before .before .before .before .before .before .before .before .before .before .before .before .split-at .ensures .0) (c .before .before .before .before .before .before .before .before .before .before .before .put-names .ensures) (c .before .before .before .before .put-labels .ensures)
 
 pub put-declared-spec : {M : Type 1} → statement M
 put-declared-spec =
     tie.close
     (tie.spec
     returns
+    (λ c κs. search needs)
     (λ c. search needs)
     slice-aggregate-put-names
     (λ c κs. search needs)

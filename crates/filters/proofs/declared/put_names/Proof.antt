@@ -1,17 +1,22 @@
--- `put_names`: the parameters are added, and then the temps. Assumes nothing.
+-- `put_names`: the parameters are added, and then the temps; a filter without slots lacks nothing. Assumes nothing.
 use native.Mathlib.Omega.{arith}
+use Rattle.filters.proofs.Covering.{covers-none}
 use Rattle.filters.proofs.Bodies.{names-put}
 use borrow.Author.Needs.{needs}
 use Rattle.filters.proofs.declared.put_names.Statement.{statement}
 use Rattle.filters.proofs.declared.put_names.Tie as tie
 
 returns : tie.Need-returns
-returns c = names-put _ _ _ _ _ (c .before .before .before .before .before .before .before .before .before .add-counted .ensures) (c .before .before .before .before .add-temps .ensures)
+returns c = covers-none _ (c .if1 .taken) _
+
+returns-2 : tie.Need-returns-2
+returns-2 c = names-put _ _ _ _ _ (c .before .before .before .before .before .before .before .before .before .add-counted .ensures) (c .before .before .before .before .add-temps .ensures)
 
 pub put-names-spec : {M : Type 1} → statement M
 put-names-spec =
     tie.close
     (tie.spec
+    returns
     (λ c κs. search needs)
     (λ c. search needs)
     (λ c. search needs)
@@ -20,4 +25,4 @@ put-names-spec =
     (λ c κs. search needs)
     (λ c. search needs)
     (λ c. search needs)
-    returns)
+    returns-2)
