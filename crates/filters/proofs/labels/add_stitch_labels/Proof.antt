@@ -12,28 +12,28 @@ use Rattle.filters.proofs.labels.add_stitch_labels.Statement.{statement
 use Rattle.filters.proofs.labels.add_stitch_labels.Tie as tie
 
 abbrev Inv-loop : tie.InvT-loop
-Inv-loop filter₀ file stitches end scratch₀ at₀ filter scratch at = ((length filter ≡ length filter₀) × (length scratch ≡ length scratch₀)) × StitchesReady file at end × StitchesLeft file filter₀ stitches end filter at
+Inv-loop filter₀ file stitches end scratch₀ at₀ filter scratch at = ((length filter ≡ length filter₀) × (length scratch ≡ length scratch₀)) × StitchesLeft file filter₀ stitches end filter at × StitchesReady file at end
 
 abbrev μ-loop : tie.MeasureT-loop
 μ-loop filter₀ file stitches end scratch₀ at₀ filter scratch at = end - at
 
 loop-holds : tie.Need-loop-holds Inv-loop μ-loop
-loop-holds c = ((refl, refl), c .before .before .before .pre .0, stitches-start _ _ _ _)
+loop-holds c = ((refl, refl), stitches-start _ _ _ _, c .before .before .before .pre .0)
 
 stitch-view-requires : tie.Need-stitch-view-requires Inv-loop μ-loop
-stitch-view-requires c κs = (c .loop .inv .1 .ordered, c .loop .inv .1 .within)
+stitch-view-requires c κs = (c .loop .inv .2 .ordered, c .loop .inv .2 .within)
 
 returns : tie.Need-returns Inv-loop μ-loop
-returns c = stitches-end (c .before .before .before .loop .inv .2) (c .before .before .before .loop .inv .1) (c .before .before .stitch-view .ensures) (c .enum-told .given .1)
+returns c = stitches-end (c .before .before .before .loop .inv .1) (c .before .before .before .loop .inv .2) (c .before .before .stitch-view .ensures) (c .enum-told .given .1)
 
 add-labels-requires : tie.Need-add-labels-requires Inv-loop μ-loop
-add-labels-requires c κs = (stitch-range _ _ _ (c .before .before .before .before .before .before .loop .inv .1) (c .before .before .before .before .before .stitch-view .ensures) _ (c .before .before .before .t .given .1), omega (arith, c .before .before .before .before .before .before .loop .inv .0, c .before .before .before .before .before .before .before .before .before .before .pre .1))
+add-labels-requires c κs = (stitch-range _ _ _ (c .before .before .before .before .before .before .loop .inv .2) (c .before .before .before .before .before .stitch-view .ensures) _ (c .before .before .before .t .given .1), omega (arith, c .before .before .before .before .before .before .loop .inv .0, c .before .before .before .before .before .before .before .before .before .before .pre .1))
 
 loop-less : tie.Need-loop-less Inv-loop μ-loop
-loop-less c = stitches-fewer _ _ _ (c .before .before .before .before .before .before .before .before .before .before .before .loop .inv .1) (c .before .before .before .before .before .before .before .before .before .before .stitch-view .ensures) _ (c .before .before .before .before .before .before .before .before .t .given .1)
+loop-less c = stitches-fewer _ _ _ (c .before .before .before .before .before .before .before .before .before .before .before .loop .inv .2) (c .before .before .before .before .before .before .before .before .before .before .stitch-view .ensures) _ (c .before .before .before .before .before .before .before .before .t .given .1)
 
 loop-again : tie.Need-loop-again Inv-loop μ-loop
-loop-again c = (omega (arith, c .before .before .before .before .before .before .before .before .before .before .before .loop .inv .0), stitches-after _ _ _ (c .before .before .before .before .before .before .before .before .before .before .before .loop .inv .1) (c .before .before .before .before .before .before .before .before .before .before .stitch-view .ensures) _ (c .before .before .before .before .before .before .before .before .t .given .1), stitches-next (c .before .before .before .before .before .before .before .before .before .before .before .loop .inv .2) (c .before .before .before .before .before .before .before .before .before .before .before .loop .inv .1) (c .before .before .before .before .before .before .before .before .before .before .stitch-view .ensures) _ (c .before .before .before .before .before .before .before .before .t .given .1) (c .before .before .before .before .add-labels .ensures))
+loop-again c = (omega (arith, c .before .before .before .before .before .before .before .before .before .before .before .loop .inv .0), stitches-next (c .before .before .before .before .before .before .before .before .before .before .before .loop .inv .1) (c .before .before .before .before .before .before .before .before .before .before .before .loop .inv .2) (c .before .before .before .before .before .before .before .before .before .before .stitch-view .ensures) _ (c .before .before .before .before .before .before .before .before .t .given .1) (c .before .before .before .before .add-labels .ensures), stitches-after _ _ _ (c .before .before .before .before .before .before .before .before .before .before .before .loop .inv .2) (c .before .before .before .before .before .before .before .before .before .before .stitch-view .ensures) _ (c .before .before .before .before .before .before .before .before .t .given .1))
 
 pub add-stitch-labels-spec : {M : Type 1} → statement M
 add-stitch-labels-spec =
