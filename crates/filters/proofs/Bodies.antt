@@ -2,12 +2,12 @@
 use mathlib.Core.Path.{_≡_, refl, sym, _∙_}
 use mathlib.Core.Bool.{Bool, true, false, _&&_, _||_, true≢false, or-assoc, or-false}
 use mathlib.Core.List.{List, [], _∷_, _++_, nil≢cons, append-nil}
-use Prim.Native.Nat.{ℕ, zero, suc, _+_, _-_, _/_}
+use Prim.Native.Nat.{ℕ, zero, suc, _+_, _-_, _≤_}
 use native.Mathlib.Numerals.{add-one}
 use native.Mathlib.Omega.{arith}
 use lib.Dec.{eqb}
 use lib.ListN.{length, take, drop, length-append, length-take, length-drop, drop-of-length-le}
-use lib.Seq.{take-all, take-at, drop-at, take-append-seam, drop-append-seam}
+use lib.Seq.{take-all, take-at, drop-at}
 use borrow.Rule.Slice.PartMut.{putMid}
 use Rattle.names.specs.Words.{Bytes, same, any, each, one-of}
 use Rattle.names.proofs.Any.{any-only, any-each, any-same}
@@ -19,7 +19,7 @@ use Rattle.bodies.specs.Search.{labelIn, tempIn, gatherAmong}
 use Rattle.checks.specs.Context.{countedAt, declaredAt, stitchLabel, hereAt}
 use Rattle.checks.specs.declared.ScopeView.{ScopeView}
 use Rattle.filters.specs.Words.{addedAll, lacks, sortNamed, labelNamed, Covers}
-use Rattle.filters.specs.Names.{Declared, labelAt, stitchLabels, Gathered, passed}
+use Rattle.filters.specs.Names.{Declared, labelAt, splitAt, stitchLabels, Gathered, passed}
 use Rattle.filters.proofs.Covering.{lacked, covers-none, covers-same, covers-all, covers-or, holds-all}
 
 -- 1. The names of items of a sort
@@ -63,42 +63,44 @@ module _ (file : List ℕ) (from to : ℕ) where
 
 -- a filter without slots lacks nothing
 pub declared-none : {file : List ℕ} {params from to end : ℕ} (filter : List ℕ) → length filter ≡ 0 → Declared file params from to end filter
-declared-none filter h = record {
-  covers = covers-none (take (length filter / 2) filter) (omega (arith, length-take (length filter / 2) filter)) _;
-  labels = covers-none (drop (length filter / 2) filter) (omega (arith, length-drop (length filter / 2) filter)) _;
-}
+declared-none {to} {end} filter h =
+    let split = splitAt (length filter) to end in
+    record {
+      covers = covers-none (take split filter) (omega (arith, length-take split filter)) _;
+      labels = covers-none (drop split filter) (omega (arith, length-drop split filter)) _;
+    }
 
--- the halves of a filter, one put after the other
-module _ (before names labels : List ℕ) (p : length names ≡ length before / 2) (q : length labels ≡ length before - length before / 2) where
+-- the two parts of a filter, one put after the other
+module _ (before names labels : List ℕ) {split : ℕ} (p : length names ≡ split) (q : length labels ≡ length before - split) (h : split ≤ length before) where
   abbrev put : List ℕ
-  put = putMid (length before / 2) (length (names ++ drop (length before / 2) before) - length before / 2) (names ++ drop (length before / 2) before) labels
+  put = putMid split (length (names ++ drop split before) - split) (names ++ drop split before) labels
 
   joined : put ≡ names ++ labels
   joined =
-      let half = length before / 2 in
-      let all : length (names ++ drop half before) ≡ length before = omega (arith, length-append names (drop half before), length-drop half before) in
-      let none : drop (length before - half) (drop half before) ≡ [] = drop-of-length-le (drop half before) {i = length before - half} (omega (arith, length-drop half before)) in
-      rw (all, take-at names (drop half before) half p, drop-at names (drop half before) half p, none, append-nil labels)
+      let all : length (names ++ drop split before) ≡ length before = omega (arith, length-append names (drop split before), length-drop split before) in
+      let none : drop (length before - split) (drop split before) ≡ [] = drop-of-length-le (drop split before) {i = length before - split} (omega (arith, length-drop split before)) in
+      rw (all, take-at names (drop split before) split p, drop-at names (drop split before) split p, none, append-nil labels)
 
-  pub declared-put : {file : List ℕ} {params from to end : ℕ} → Covers names (declaredAt file params from to) → Covers labels (labelAt file from to end)
-      → Declared file params from to end put
-  declared-put n l =
-      let half : length (names ++ labels) / 2 ≡ length names = omega (arith, length-append names labels) in
-      rw joined (record { covers = rw (half, take-append-seam names labels) n; labels = rw (half, drop-append-seam names labels) l })
+  pub declared-put : {file : List ℕ} {params from to end : ℕ} → split ≡ splitAt (length before) to end
+      → Covers names (declaredAt file params from to) → Covers labels (labelAt file from to end) → Declared file params from to end put
+  declared-put e n l =
+      let all : length (names ++ labels) ≡ length before = omega (arith, length-append names labels) in
+      rw joined
+      (record { covers = rw (all, ← e, take-at names labels split p) n; labels = rw (all, ← e, drop-at names labels split p) l })
 
-module _ {file filter : List ℕ} (v : ScopeView) (declared : Declared file (v .outer) (v .body) (v .stitches) (v .end) filter) (n : Bytes) {r : Bool} where
-  -- the first half lacks the name, so that it is not forbidden
-  pub not-forbidden : r ≡ lacks (take (length filter / 2) filter) n → r ≡ true → false ≡ hereAt file v .forbidden n
+module _ {file filter : List ℕ} (v : ScopeView) (declared : Declared file (v .outer) (v .body) (v .stitches) (v .end) filter) (n : Bytes) {r : Bool}
+    {split : ℕ} (here : split ≡ splitAt (length filter) (v .stitches) (v .end)) where
+  -- the first part lacks the name, so that it is not forbidden
+  pub not-forbidden : r ≡ lacks (take split filter) n → r ≡ true → false ≡ hereAt file v .forbidden n
   unfolding hereAt
-  not-forbidden e t = rw (lacked (declared .covers) e t)
+  not-forbidden e t = rw (lacked (declared .covers) (rw here at e) t)
 
-  -- the second half lacks the name, so that it is no label
-  pub not-label : r ≡ lacks (take (length filter - length filter / 2) (drop (length filter / 2) filter)) n → r ≡ true → false ≡ hereAt file v .label n
+  -- the second part lacks the name, so that it is no label
+  pub not-label : r ≡ lacks (take (length filter - split) (drop split filter)) n → r ≡ true → false ≡ hereAt file v .label n
   unfolding hereAt
   not-label e t =
-      let half = length filter / 2 in
-      let all = take-all (length filter - half) (drop half filter) (omega (arith, length-drop half filter)) in
-      sym (lacked (declared .labels) (rw all at e) t)
+      let all = take-all (length filter - split) (drop split filter) (omega (arith, length-drop split filter)) in
+      sym (lacked (declared .labels) (rw (all, here) at e) t)
 
 -- 3. The gathers before an item
 

@@ -1,4 +1,4 @@
-// A filter over the names of a knot, in halves: what it declares, its parameters and the temps of its own list; and the labels. Rule 15 (variables.rs).
+// A filter over the names of a knot, in two parts: what it declares, its parameters and the temps of its own list; and labels. Rule 15 (variables.rs).
 ghost use mathlib.Core.Path.{_≡_};
 ghost use mathlib.Core.List.{List};
 ghost use Prim.Native.Nat.{_≤_};
@@ -13,6 +13,7 @@ ghost use Rattle.checks.specs.Context.{ScopeReady, StitchesReady, Sorted, decla
 ghost use Rattle.filters.specs.Words.{addedAll, sortNamed, Covers};
 ghost use Rattle.filters.specs.Names.{Declared};
 use crate::labels::put_labels;
+use crate::labels::split_at;
 use crate::words::add_counted;
 use crate::words::add_item;
 use crate::words::clear_filter;
@@ -49,7 +50,7 @@ fn add_temps(filter: &mut [u8], file: &[u8], from: usize, to: usize, scratch: &m
     }
 }
 
-// Empties the filter, and adds the parameters and the temps of the body.
+// Empties the filter, and adds the parameters and the temps of the body. One without slots stays.
 fn put_names(
     file: &[u8],
     params: usize,
@@ -63,12 +64,15 @@ fn put_names(
     requires { ⌜ 2 ≤ length (now scratch) ⌝ }
     ensures { λ r. ⌜ Covers (now (filter .exit)) (declaredAt (now (file .entry)) params from to) ⌝ }
 {
+    if filter.len() == 0 {
+        return;
+    }
     clear_filter(filter);
     add_counted(filter, &file[params..]);
     add_temps(filter, file, from, to, scratch);
 }
 
-// The first half gets the parameters and the temps of the body, the second its labels and those of the stitches after it.
+// The first part gets the parameters and the temps of the body, the second its labels and those of the stitches after it.
 // What the filter had before would only cost searches. One without slots stays.
 pub fn put_declared(
     file: &[u8],
@@ -88,12 +92,12 @@ pub fn put_declared(
     if filter.len() == 0 {
         return;
     }
-    let half = filter.len() / 2;
-    put_names(file, params, from, to, &mut filter[..half], scratch);
-    put_labels(file, from, to, end, &mut filter[half..], scratch);
+    let split = split_at(filter.len(), to, end);
+    put_names(file, params, from, to, &mut filter[..split], scratch);
+    put_labels(file, from, to, end, &mut filter[split..], scratch);
 }
 
-// The name is forbidden in the stitch: its knot declares it, and it does not. Not searched for where the filter's first half lacks it.
+// The name is forbidden in the stitch: its knot declares it, and it does not. Not searched for where the filter's first part lacks it.
 pub fn is_forbidden_in(
     file: &[u8],
     scope: ScopeView,
@@ -106,8 +110,8 @@ pub fn is_forbidden_in(
     requires { ⌜ 2 ≤ length (now scratch) ⌝ }
     ensures { λ r. ⌜ r ≡ hereAt (now (file .entry)) scope .forbidden (now (name .entry)) ⌝ }
 {
-    let half = filter.len() / 2;
-    if lacks_word(&filter[..half], name) {
+    let split = split_at(filter.len(), scope.stitches, scope.end);
+    if lacks_word(&filter[..split], name) {
         return false;
     }
     is_forbidden(file, scope, name, scratch)

@@ -1,6 +1,6 @@
 // A filter over the labels of a knot, those of its own list and of all its stitches.
 ghost use mathlib.Core.Path.{_≡_};
-ghost use Prim.Native.Nat.{_≤_, _/_};
+ghost use Prim.Native.Nat.{_≤_};
 ghost use lib.ListN.{length};
 ghost use Rattle.names.specs.Words.{each};
 ghost use Rattle.story.specs.Story.{whats};
@@ -8,7 +8,7 @@ ghost use Rattle.bodies.specs.Records.{itemFrom};
 ghost use Rattle.bodies.specs.Bodies.{bodyIn, Range};
 ghost use Rattle.checks.specs.Context.{ScopeReady, StitchesReady, hereAt};
 ghost use Rattle.filters.specs.Words.{addedAll, labelNamed, Covers};
-ghost use Rattle.filters.specs.Names.{Declared, labelAt, stitchLabels};
+ghost use Rattle.filters.specs.Names.{Declared, labelAt, splitAt, stitchLabels};
 use crate::words::add_word;
 use crate::words::clear_filter;
 use crate::words::lacks_word;
@@ -20,6 +20,16 @@ use checks::ScopeView;
 use checks::labels::is_label;
 use searches::views::StitchViewRead;
 use searches::views::stitch_view;
+
+// Where the labels begin in a filter of so many bytes: in the middle, or at the front where no stitch asks what the knot declares.
+pub fn split_at(bytes: usize, to: usize, end: usize) -> usize
+    ensures { λ r. ⌜ (r ≡ splitAt bytes to end) × (r ≤ bytes) ⌝ }
+{
+    if to == end {
+        return 0;
+    }
+    bytes / 2
+}
 
 // Adds the name of the item at the place, where it is a label.
 fn add_label(filter: &mut [u8], file: &[u8], place: usize, tag: u32)
@@ -89,7 +99,7 @@ pub fn put_labels(
     add_stitch_labels(filter, file, to, end, scratch);
 }
 
-// The name is a label that a temp may not have. Not searched for where the filter's second half lacks it.
+// The name is a label that a temp may not have. Not searched for where the filter's second part lacks it.
 pub fn is_label_in(
     file: &[u8],
     scope: ScopeView,
@@ -102,8 +112,8 @@ pub fn is_label_in(
     requires { ⌜ 2 ≤ length (now scratch) ⌝ }
     ensures { λ r. ⌜ r ≡ hereAt (now (file .entry)) scope .label (now (name .entry)) ⌝ }
 {
-    let half = filter.len() / 2;
-    if lacks_word(&filter[half..], name) {
+    let split = split_at(filter.len(), scope.stitches, scope.end);
+    if lacks_word(&filter[split..], name) {
         return false;
     }
     is_label(file, scope, name, scratch)

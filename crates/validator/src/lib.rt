@@ -132,7 +132,7 @@ fn check_short(file: &[u8], c: Sections, index: &mut [u32], message: &mut [u8]) 
     )
 }
 
-// The story of a file of at most 65,536 bytes, in buffers of some 117 KB.
+// The story of a file of at most 65,536 bytes, in buffers of some 123 KB.
 fn check_middling(file: &[u8], c: Sections, index: &mut [u32], message: &mut [u8]) -> Answer
     requires { ⌜ readOf (now file) ≡ Opened.At c ⌝ }
     requires { ⌜ (3 * c .end ≤ length (now index)) × (640 ≤ length (now message)) ⌝ }
@@ -140,7 +140,7 @@ fn check_middling(file: &[u8], c: Sections, index: &mut [u32], message: &mut [u8
 {
     let mut functions = [0u32; 8192];
     let mut hints = [0u32; 8192];
-    let mut declared = [0u8; 2048];
+    let mut declared = [0u8; 8192];
     let mut gathers = [0u8; 8192];
     let mut batch = [0u32; 8192];
     let mut scratch = [0u32; 2048];
@@ -166,8 +166,8 @@ fn check_long(file: &[u8], c: Sections, index: &mut [u32], message: &mut [u8]) -
 {
     let mut functions = [0u32; 32768];
     let mut hints = [0u32; 131072];
-    let mut declared = [0u8; 16384];
-    let mut gathers = [0u8; 131072];
+    let mut declared = [0u8; 65536];
+    let mut gathers = [0u8; 65536];
     let mut batch = [0u32; 32768];
     let mut scratch = [0u32; 16384];
     check_story(

@@ -36,7 +36,8 @@ add-item-requires c κs = c .sort-at .ensures
 loop-again : tie.Need-loop-again Inv-loop μ-loop
 loop-again c =
     let at-fetch = c .before .before .before .before .before .before .before .before .before in
-    let at-loop-test = at-fetch .before .before in
+    let back-11 = at-fetch .before .before in
+    let at-loop-test = back-11 in
     let at-loop = at-loop-test .before in
     let at-count-items = at-loop .before .before .before in
     let count-items = at-count-items .count-items in

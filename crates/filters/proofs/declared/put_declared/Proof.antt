@@ -1,7 +1,6 @@
--- `put_declared`: each half gets its names; a filter without slots lacks nothing. Assumes nothing.
-use Prim.Native.Nat.{_/_}
+-- `put_declared`: each part gets its names; a filter without slots lacks nothing. Assumes nothing.
 use native.Mathlib.Omega.{arith}
-use lib.ListN.{length, length-take}
+use lib.ListN.{length-take}
 use Rattle.filters.proofs.Bodies.{declared-none, declared-put}
 use borrow.Author.Needs.{needs}
 use Rattle.filters.proofs.declared.put_declared.Statement.{statement}
@@ -9,15 +8,15 @@ use Rattle.filters.proofs.declared.put_declared.Tie as tie
 
 slice-aggregate-put-names : tie.Need-slice-aggregate-put-names
 slice-aggregate-put-names c =
-    let start = c .before .before .before .before .before in
-    omega (arith, length-take (length (start .args .filter .now) / 2) (start .args .filter .now))
+    let start = c .before .before .before .before .before .before in
+    omega (arith, length-take (c .before .split-at .result) (start .args .filter .now), c .before .split-at .ensures .1)
 
 returns : tie.Need-returns
 returns c = declared-none _ (c .if1 .taken)
 
 put-labels-requires : tie.Need-put-labels-requires
 put-labels-requires c κs =
-    let start = c .before .before .before .before .before .before .before .before .before .before .before .before .before in
+    let start = c .before .before .before .before .before .before .before .before .before .before .before .before .before .before in
     (start .pre .1 .0, (start .pre .1 .1 .0, omega (arith, start .pre .1 .1 .1, c .before .before .before .scratch .given)))
 
 returns-2 : tie.Need-returns-2
@@ -25,14 +24,16 @@ returns-2 c =
     let at-put-labels = c .before .before .before .before in
     let at-filter = at-put-labels .before .before .before .before .before .before in
     let at-put-names = at-filter .before in
-    let start = at-put-names .before .before .before .before .before .before .before in
-    declared-put (start .args .filter .now) _ _ (omega (arith, at-filter .filter .given, length-take (length (start .args .filter .now) / 2) (start .args .filter .now))) (omega (arith, c .before .before .before .filter2 .given)) (at-put-names .put-names .ensures) (at-put-labels .put-labels .ensures)
+    let at-split-at = at-put-names .before .before .before in
+    let start = at-split-at .before .before .before .before .before in
+    declared-put (start .args .filter .now) _ _ (omega (arith, at-filter .filter .given, length-take (at-split-at .split-at .result) (start .args .filter .now), at-split-at .split-at .ensures .1)) (omega (arith, c .before .before .before .filter2 .given)) (at-split-at .split-at .ensures .1) (at-split-at .split-at .ensures .0) (at-put-names .put-names .ensures) (at-put-labels .put-labels .ensures)
 
 pub put-declared-spec : {M : Type 1} → statement M
 put-declared-spec =
     tie.close
     (tie.spec
     returns
+    (λ c κs. search needs)
     (λ c. search needs)
     slice-aggregate-put-names
     (λ c κs. search needs)

@@ -1,12 +1,16 @@
--- `put_names`: the parameters are added, and then the temps. Assumes nothing.
+-- `put_names`: the parameters are added, and then the temps; a filter without slots lacks nothing. Assumes nothing.
 use native.Mathlib.Omega.{arith}
+use Rattle.filters.proofs.Covering.{covers-none}
 use Rattle.filters.proofs.Bodies.{names-put}
 use borrow.Author.Needs.{needs}
 use Rattle.filters.proofs.declared.put_names.Statement.{statement}
 use Rattle.filters.proofs.declared.put_names.Tie as tie
 
 returns : tie.Need-returns
-returns c =
+returns c = covers-none _ (c .if1 .taken) _
+
+returns-2 : tie.Need-returns-2
+returns-2 c =
     let at-add-temps = c .before .before .before .before in
     let at-add-counted = at-add-temps .before .before .before .before .before in
     names-put _ _ _ _ _ (at-add-counted .add-counted .ensures) (at-add-temps .add-temps .ensures)
@@ -15,6 +19,7 @@ pub put-names-spec : {M : Type 1} → statement M
 put-names-spec =
     tie.close
     (tie.spec
+    returns
     (λ c κs. search needs)
     (λ c. search needs)
     (λ c. search needs)
@@ -23,4 +28,4 @@ put-names-spec =
     (λ c κs. search needs)
     (λ c. search needs)
     (λ c. search needs)
-    returns)
+    returns-2)

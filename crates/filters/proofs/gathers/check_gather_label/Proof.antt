@@ -8,7 +8,8 @@ use Rattle.filters.proofs.gathers.check_gather_label.Tie as tie
 returns : tie.Need-returns
 returns c k h =
     let at-item-name = c .before .before .before .before .before in
-    let at-if1 = at-item-name .before in
+    let back-6 = at-item-name .before in
+    let at-if1 = back-6 in
     let at-is-sort = at-if1 .before in
     let is-sort = at-is-sort .is-sort in
     let if1 = at-if1 .if1 in
@@ -19,7 +20,8 @@ returns c k h =
 returns-2 : tie.Need-returns-2
 returns-2 c k h =
     let at-item-name = c .before .before .before .before .before in
-    let at-if1 = at-item-name .before in
+    let back-6 = at-item-name .before in
+    let at-if1 = back-6 in
     let at-is-sort = at-if1 .before in
     let is-sort = at-is-sort .is-sort in
     let if1 = at-if1 .if1 in

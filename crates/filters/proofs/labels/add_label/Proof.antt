@@ -7,7 +7,8 @@ use Rattle.filters.proofs.labels.add_label.Tie as tie
 returns : tie.Need-returns
 returns c =
     let at-if1 = c .before .before .before .before .before in
-    let at-is-labelled = at-if1 .before in
+    let back-6 = at-if1 .before in
+    let at-is-labelled = back-6 in
     label-added _ _ (at-is-labelled .is-labelled .ensures) (at-if1 .if1 .taken) (c .before .before .before .item-name .ensures) (c .before .before .add-word .ensures)
 
 returns-2 : tie.Need-returns-2

@@ -32,7 +32,8 @@ cast-place c = omega (arith, c .slice-known5 .given (2 * (c .before .before .bef
 loop-again : tie.Need-loop-again Inv-loop μ-loop
 loop-again c =
     let at-fetch = c .before .before .before .before .before .before .before .before in
-    let at-loop-test = at-fetch .before .before in
+    let back-10 = at-fetch .before .before in
+    let at-loop-test = back-10 in
     let at-loop = at-loop-test .before in
     let at-count-items = at-loop .before .before .before in
     (omega (arith, at-loop .loop .inv .0, at-loop-test .loop-test, at-fetch .fetch .ensures .early, at-fetch .fetch .ensures .room), at-fetch .fetch .ensures .window, items-next (at-loop .loop .inv .2) (fetched-item (at-fetch .fetch .ensures) (omega (arith, at-loop-test .loop-test, at-count-items .count-items .ensures .counts))) (c .before .before .add-label .ensures))

@@ -8,7 +8,8 @@ use Rattle.filters.proofs.labels.put_labels.Tie as tie
 returns : tie.Need-returns
 returns c =
     let at-add-stitch-labels = c .before .before .before .before in
-    let at-add-labels = at-add-stitch-labels .before .before .before .before .before .before .before in
+    let back-11 = at-add-stitch-labels .before .before .before .before .before .before .before in
+    let at-add-labels = back-11 in
     labels-put _ _ _ _ _ (at-add-labels .add-labels .ensures) (at-add-stitch-labels .add-stitch-labels .ensures)
 
 pub put-labels-spec : {M : Type 1} → statement M

@@ -14,7 +14,8 @@ returns-2 c = passed _ (c .before .before .before .is-function .ensures) (c .bef
 returns-3 : tie.Need-returns-3
 returns-3 c =
     let at-if2 = c .before .before .before .before .before in
-    let at-is-parameter = at-if2 .before in
+    let back-6 = at-if2 .before in
+    let at-is-parameter = back-6 in
     let at-if1 = at-is-parameter .before in
     let at-is-function = at-if1 .before in
     passed _ (at-is-function .is-function .ensures) (at-if1 .if1 .left) (passed _ (at-is-parameter .is-parameter .ensures) (at-if2 .if2 .left) (picked _ (c .before .before .before .is-label-in .ensures) (c .if3 .taken) refl))
@@ -22,7 +23,8 @@ returns-3 c =
 returns-4 : tie.Need-returns-4
 returns-4 c =
     let at-if2 = c .before .before .before .before .before in
-    let at-is-parameter = at-if2 .before in
+    let back-6 = at-if2 .before in
+    let at-is-parameter = back-6 in
     let at-if1 = at-is-parameter .before in
     let at-is-function = at-if1 .before in
     passed _ (at-is-function .is-function .ensures) (at-if1 .if1 .left) (passed _ (at-is-parameter .is-parameter .ensures) (at-if2 .if2 .left) (passed _ (c .before .before .before .is-label-in .ensures) (c .if3 .left) refl))

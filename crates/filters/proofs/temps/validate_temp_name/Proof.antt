@@ -14,7 +14,8 @@ check-temp-name-requires c κs =
 returns : tie.Need-returns
 returns c before =
     let at-item-name = c .before .before .before .before in
-    let at-if1 = at-item-name .before in
+    let back-5 = at-item-name .before in
+    let at-if1 = back-5 in
     let at-is-sort = at-if1 .before in
     let start = at-is-sort .before .before .before .before .before in
     rw (temps-at _ _ before (start .args .file .now) (start .args .slot)) (picked _ (at-is-sort .is-sort .ensures) (at-if1 .if1 .taken) (rw (at-item-name .item-name .ensures) at (c .before .before .check-temp-name .ensures)))

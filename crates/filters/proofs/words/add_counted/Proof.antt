@@ -40,7 +40,8 @@ add-at-2 c = omega (arith, c .shared-slice-known3 .given (c .before .before .bef
 loop-again : tie.Need-loop-again Inv-loop μ-loop
 loop-again c =
     let at-name-at = c .before .before .before .before in
-    let at-loop = at-name-at .before .before .before .before in
+    let back-8 = at-name-at .before .before .before .before in
+    let at-loop = back-8 in
     let loop = at-loop .loop in
     let name-at = at-name-at .name-at in
     let add-word = c .before .before .before .add-word in

@@ -7,7 +7,8 @@ use Rattle.filters.proofs.words.add_item.Tie as tie
 returns : tie.Need-returns
 returns c =
     let at-if1 = c .before .before .before .before .before in
-    let start = at-if1 .before .before .before in
+    let back-8 = at-if1 .before .before .before in
+    let start = back-8 in
     item-added _ _ (start .pre) (at-if1 .if1 .taken) (c .before .before .before .item-name .ensures) (c .before .before .add-word .ensures)
 
 returns-2 : tie.Need-returns-2
