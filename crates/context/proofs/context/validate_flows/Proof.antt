@@ -40,12 +40,7 @@ returns : tie.Need-returns Inv-loop μ-loop
 returns c = rw (c .before .before .before .loop .inv .2) (each-none _ _ (flows-none _ _ _ (c .before .before .before .loop .inv .1) (c .before .before .flow-view .ensures) (c .enum-told .given .1)))
 
 validate-whole-flow-requires : tie.Need-validate-whole-flow-requires Inv-loop μ-loop
-validate-whole-flow-requires c κs =
-    let at-v = c .before .before .before .before .before .before in
-    let at-flow-view = at-v .before .before in
-    let at-loop = at-flow-view .before in
-    let start = at-loop .before .before .before .before .before .before .before .before .before in
-    (start .pre .0, (flow-seen-ready _ _ _ (at-loop .loop .inv .1) (at-flow-view .flow-view .ensures) _ (at-v .v .given .1), omega (arith, at-loop .loop .inv .0, start .pre .1 .1)))
+validate-whole-flow-requires c κs = (c .before .before .before .before .before .before .before .before .before .before .before .before .before .before .before .before .before .before .pre .0, (flow-seen-ready _ _ _ (c .before .before .before .before .before .before .before .before .before .loop .inv .1) (c .before .before .before .before .before .before .before .before .flow-view .ensures) _ (c .before .before .before .before .before .before .v .given .1), omega (arith, c .before .before .before .before .before .before .before .before .before .loop .inv .0, c .before .before .before .before .before .before .before .before .before .before .before .before .before .before .before .before .before .before .pre .1 .1)))
 
 same-length-3 : tie.Need-same-length-3 Inv-loop μ-loop
 same-length-3 c = omega (arith, c .before .before .before .loop .inv .0)
@@ -54,57 +49,31 @@ same-length-4 : tie.Need-same-length-4 Inv-loop μ-loop
 same-length-4 c = omega (arith, c .before .before .before .loop .inv .0)
 
 returns-2 : tie.Need-returns-2 Inv-loop μ-loop
-returns-2 c =
-    let at-validate-whole-flow = c .before .before .before .before .before .before .before .before .before .before in
-    let at-v = at-validate-whole-flow .before .before .before .before .before .before .before in
-    let at-flow-view = at-v .before .before in
-    let at-loop = at-flow-view .before in
-    rw (at-loop .loop .inv .2) (each-found _ _ (flow-viewed _ _ _ _ (at-flow-view .flow-view .ensures) (at-v .v .given .1)) (at-validate-whole-flow .validate-whole-flow .ensures) (c .enum-told2 .given .1))
+returns-2 c = rw (c .before .before .before .before .before .before .before .before .before .before .before .before .before .before .before .before .before .before .before .before .loop .inv .2) (each-found _ _ (flow-viewed _ _ _ _ (c .before .before .before .before .before .before .before .before .before .before .before .before .before .before .before .before .before .before .before .flow-view .ensures) (c .before .before .before .before .before .before .before .before .before .before .before .before .before .before .before .before .before .v .given .1)) (c .before .before .before .before .before .before .before .before .before .before .validate-whole-flow .ensures) (c .enum-told2 .given .1))
 
 loop-less : tie.Need-loop-less Inv-loop μ-loop
-loop-less c =
-    let at-v = c .before .before .before .before .before .before .before .before .before .before .before .before .before .before .before .before .before in
-    let at-flow-view = at-v .before .before in
-    let at-loop = at-flow-view .before in
-    flows-fewer _ _ _ (at-loop .loop .inv .1) (at-flow-view .flow-view .ensures) _ (at-v .v .given .1)
+loop-less c = flows-fewer _ _ _ (c .before .before .before .before .before .before .before .before .before .before .before .before .before .before .before .before .before .before .before .before .loop .inv .1) (c .before .before .before .before .before .before .before .before .before .before .before .before .before .before .before .before .before .before .before .flow-view .ensures) _ (c .before .before .before .before .before .before .before .before .before .before .before .before .before .before .before .before .before .v .given .1)
 
 loop-again : tie.Need-loop-again Inv-loop μ-loop
-loop-again c =
-    let at-validate-whole-flow = c .before .before .before .before .before .before .before .before .before .before in
-    let at-v = at-validate-whole-flow .before .before .before .before .before .before .before in
-    let at-flow-view = at-v .before .before in
-    let at-loop = at-flow-view .before in
-    (omega (arith, at-loop .loop .inv .0), flows-after _ _ _ (at-loop .loop .inv .1) (at-flow-view .flow-view .ensures) _ (at-v .v .given .1), at-loop .loop .inv .2 ∙ each-passed _ _ (flow-viewed _ _ _ _ (at-flow-view .flow-view .ensures) (at-v .v .given .1)) (at-validate-whole-flow .validate-whole-flow .ensures) (c .enum-told3 .given .1))
+loop-again c = (omega (arith, c .before .before .before .before .before .before .before .before .before .before .before .before .before .before .before .before .before .before .before .before .loop .inv .0), flows-after _ _ _ (c .before .before .before .before .before .before .before .before .before .before .before .before .before .before .before .before .before .before .before .before .loop .inv .1) (c .before .before .before .before .before .before .before .before .before .before .before .before .before .before .before .before .before .before .before .flow-view .ensures) _ (c .before .before .before .before .before .before .before .before .before .before .before .before .before .before .before .before .before .v .given .1), c .before .before .before .before .before .before .before .before .before .before .before .before .before .before .before .before .before .before .before .before .loop .inv .2 ∙ each-passed _ _ (flow-viewed _ _ _ _ (c .before .before .before .before .before .before .before .before .before .before .before .before .before .before .before .before .before .before .before .flow-view .ensures) (c .before .before .before .before .before .before .before .before .before .before .before .before .before .before .before .before .before .v .given .1)) (c .before .before .before .before .before .before .before .before .before .before .validate-whole-flow .ensures) (c .enum-told3 .given .1))
 
 same-length-5 : tie.Need-same-length-5 Inv-loop μ-loop
-same-length-5 c =
-    let at-loop = c .before .before .before .before .before .before .before .before .before .before .before .before .before .before .before .before .before .before .before .before in
-    omega (arith, at-loop .loop .inv .0)
+same-length-5 c = omega (arith, c .before .before .before .before .before .before .before .before .before .before .before .before .before .before .before .before .before .before .before .before .loop .inv .0)
 
 same-length-6 : tie.Need-same-length-6 Inv-loop μ-loop
-same-length-6 c =
-    let at-loop = c .before .before .before .before .before .before .before .before .before .before .before .before .before .before .before .before .before .before .before .before in
-    omega (arith, at-loop .loop .inv .0)
+same-length-6 c = omega (arith, c .before .before .before .before .before .before .before .before .before .before .before .before .before .before .before .before .before .before .before .before .loop .inv .0)
 
 same-length-7 : tie.Need-same-length-7 Inv-loop μ-loop
-same-length-7 c =
-    let at-loop = c .before .before .before .before .before .before .before .before .before .before .before .before .before .before .before .before .before .before .before .before in
-    omega (arith, at-loop .loop .inv .0)
+same-length-7 c = omega (arith, c .before .before .before .before .before .before .before .before .before .before .before .before .before .before .before .before .before .before .before .before .loop .inv .0)
 
 same-length-8 : tie.Need-same-length-8 Inv-loop μ-loop
-same-length-8 c =
-    let at-loop = c .before .before .before .before .before .before .before .before .before .before .before .before .before .before .before .before .before .before .before .before in
-    omega (arith, at-loop .loop .inv .0)
+same-length-8 c = omega (arith, c .before .before .before .before .before .before .before .before .before .before .before .before .before .before .before .before .before .before .before .before .loop .inv .0)
 
 declared-room-requires : tie.Need-declared-room-requires Inv-loop μ-loop
-declared-room-requires c κs =
-    let at-loop = c .before .before .before .before in
-    let ready = flow-seen-ready _ _ _ (at-loop .loop .inv .1) (c .before .before .before .flow-view .ensures) _ (c .before .v .given .1) in omega (arith, ready .body .ordered, ready .joined, ready .stitches .ordered)
+declared-room-requires c κs = let ready = flow-seen-ready _ _ _ (c .before .before .before .before .loop .inv .1) (c .before .before .before .flow-view .ensures) _ (c .before .v .given .1) in omega (arith, ready .body .ordered, ready .joined, ready .stitches .ordered)
 
 slice-aggregate-validate-whole-flow : tie.Need-slice-aggregate-validate-whole-flow Inv-loop μ-loop
-slice-aggregate-validate-whole-flow c =
-    let at-loop = c .before .before .before .before .before .before in
-    omega (arith, length-take (c .before .declared-room .result) (at-loop .loop .declared), c .before .declared-room .ensures)
+slice-aggregate-validate-whole-flow c = omega (arith, length-take (c .before .declared-room .result) (c .before .before .before .before .before .before .loop .declared), c .before .declared-room .ensures)
 
 pub validate-flows-spec : {M : Type 1} → statement M
 validate-flows-spec =
