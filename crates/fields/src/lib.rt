@@ -2,6 +2,7 @@
 ghost use mathlib.Core.Path.{_≡_};
 ghost use Rattle.fields.specs.Bytes.{le32, headOf, listOf, nameOf, flagOf, headSpan, testSpan};
 ghost use Rattle.fields.specs.Kinds.{exprKind, condKind, nodeKind, kindOf, roleNumber, tagOf};
+ghost use Rattle.fields.specs.Refusals.{refusalNumber};
 
 // Why a file cannot be read: refusals 1 to 6.
 pub enum Refusal {
@@ -83,6 +84,20 @@ pub fn word(a: u8, b: u8, c: u8, d: u8) -> usize
     ensures { λ r. ⌜ r ≡ le32 a b c d ⌝ }
 {
     wide(a) + wide(b) * 256 + wide(c) * 65536 + wide(d) * 16777216
+}
+
+// The number of a refusal.
+pub fn refusal_number(r: Refusal) -> usize
+    ensures { λ n. ⌜ n ≡ refusalNumber r ⌝ }
+{
+    match r {
+        Refusal::Length => 1,
+        Refusal::Mark => 2,
+        Refusal::Starts => 3,
+        Refusal::Short => 4,
+        Refusal::Unknown => 5,
+        Refusal::Deep => 6,
+    }
 }
 
 // The head of the record at the front of s.

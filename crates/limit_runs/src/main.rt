@@ -250,12 +250,15 @@ fn put_case(case: u8, space: &mut [u8]) -> usize {
     }
 }
 
-// The numbers of the index that a case lends: one short in case 12.
+// The numbers of the index that a case lends: none beside the two longest files, and one short in case 12.
 fn numbers_of(case: u8) -> usize {
-    if case == 12 {
-        return NUMBERS - 1;
+    match case {
+        0..=8 => NUMBERS,
+        9..=10 => 0,
+        11 => NUMBERS,
+        12 => NUMBERS - 1,
+        13..=255 => NUMBERS,
     }
-    NUMBERS
 }
 
 // The bytes of the message buffer that a case lends: one short in case 13.
@@ -282,29 +285,66 @@ fn print_case(case: u8, space: &mut [u8], index: &mut [u32], message: &mut [u8],
     );
 }
 
-// Writes the lines of all cases.
-fn print_cases(space: &mut [u8], index: &mut [u32], message: &mut [u8], out: &mut [u8])
+// Writes the lines of the cases from `first` to before `end`.
+fn print_cases(
+    first: u8,
+    end: u8,
+    space: &mut [u8],
+    index: &mut [u32],
+    message: &mut [u8],
+    out: &mut [u8],
+)
     requires { ⌜ length (now message) + 60 ≤ length (now out) ⌝ }
 {
-    let mut case: u8 = 0;
-    while case < 15 {
+    let mut case = first;
+    while case < end {
         print_case(case, space, index, message, out);
         case += 1;
     }
 }
 
 // Lends two arrays on.
-fn lend(space: &mut [u8; 1048577], index: &mut [u32; NUMBERS], message: &mut [u8], out: &mut [u8])
+fn lend(
+    first: u8,
+    end: u8,
+    space: &mut [u8; 524288],
+    index: &mut [u32; NUMBERS],
+    message: &mut [u8],
+    out: &mut [u8],
+)
     requires { ⌜ length (now message) + 60 ≤ length (now out) ⌝ }
 {
-    print_cases(space, index, message, out);
+    print_cases(first, end, space, index, message, out);
 }
 
-// Lends the buffers.
-fn main() {
-    let mut space = [0u8; 1048577];
+// Lends the buffers for files of at most 524,288 bytes.
+fn run_stories(first: u8, end: u8) {
+    let mut space = [0u8; 524288];
     let mut index = [0u32; NUMBERS];
     let mut message = [0u8; MESSAGE];
     let mut out = [0u8; 700];
-    lend(&mut space, &mut index, &mut message, &mut out);
+    lend(first, end, &mut space, &mut index, &mut message, &mut out);
+}
+
+// Lends an array on as its bytes.
+fn lend_long(space: &mut [u8; 1048577], index: &mut [u32], message: &mut [u8], out: &mut [u8])
+    requires { ⌜ length (now message) + 60 ≤ length (now out) ⌝ }
+{
+    print_cases(9, 11, space, index, message, out);
+}
+
+// Lends the buffers for the two longest files.
+fn run_long() {
+    let mut space = [0u8; 1048577];
+    let mut index = [0u32; 1];
+    let mut message = [0u8; MESSAGE];
+    let mut out = [0u8; 700];
+    lend_long(&mut space, &mut index, &mut message, &mut out);
+}
+
+// Writes the lines of all cases. The longest files and the longest index are not on the stack at one time.
+fn main() {
+    run_stories(0, 9);
+    run_long();
+    run_stories(11, 15);
 }

@@ -3,14 +3,13 @@ ghost use mathlib.Core.Path.{_≡_};
 ghost use Prim.Native.Nat.{_+_, _≤_};
 ghost use lib.ListN.{length};
 ghost use mathlib.Core.List.{[], _∷_};
-ghost use Rattle.fields.specs.Refusals.{refusalNumber};
 ghost use Rattle.records.specs.Window.{overlay};
 ghost use Rattle.messages.specs.Messages.{Wrote};
 ghost use Rattle.validator.specs.Results.{resultOf};
 ghost use Rattle.validator.specs.Check.{reportOf};
 ghost use Rattle.validator.specs.Checked.{Checked};
 ghost use Rattle.lines.specs.Lines.{digits, refusedLine, breachLine, reportLine, inputReport, inputLine, textLength, lineOf, Within};
-use fields::Refusal;
+use fields::refusal_number;
 use messages::put;
 use rules::rule_number;
 use validator::Answer;
@@ -27,20 +26,6 @@ fn wide(b: u8) -> usize
     ensures { λ r. ⌜ r ≡ b ⌝ }
 {
     b as usize
-}
-
-// The number of a refusal by the reader.
-pub fn refusal_number(r: Refusal) -> usize
-    ensures { λ n. ⌜ n ≡ refusalNumber r ⌝ }
-{
-    match r {
-        Refusal::Length => 1,
-        Refusal::Mark => 2,
-        Refusal::Starts => 3,
-        Refusal::Short => 4,
-        Refusal::Unknown => 5,
-        Refusal::Deep => 6,
-    }
 }
 
 // Writes a digit at `at`, and answers where it ends.

@@ -1,5 +1,5 @@
 // A lookup in an index that was filled with one number, and the line that shows what came of it.
-use fields::Refusal;
+use fields::refusal_number;
 use lookups::LookupAnswer;
 use lookups::lookup;
 
@@ -12,18 +12,6 @@ const WRITTEN: usize = 32;
 // The number for no name.
 const ABSENT: u32 = 4294967295;
 
-// The number of a refusal.
-fn number(r: Refusal) -> u64 {
-    match r {
-        Refusal::Length => 1,
-        Refusal::Mark => 2,
-        Refusal::Starts => 3,
-        Refusal::Short => 4,
-        Refusal::Unknown => 5,
-        Refusal::Deep => 6,
-    }
-}
-
 // Writes a word and a number.
 fn print_numbered(word: &[u8], n: u64) {
     io::write_all(1, word);
@@ -33,7 +21,7 @@ fn print_numbered(word: &[u8], n: u64) {
 // Writes the answer: its word, and the number of its refusal or entry.
 fn print_answer(answer: LookupAnswer) {
     match answer {
-        LookupAnswer::Refused(r) => print_numbered(b"refused ", number(r)),
+        LookupAnswer::Refused(r) => print_numbered(b"refused ", refusal_number(r) as u64),
         LookupAnswer::ShortIndex => print_numbered(b"refused ", 7),
         LookupAnswer::Pass => {
             io::write_all(1, b"pass");

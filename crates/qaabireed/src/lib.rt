@@ -7,7 +7,7 @@ ghost use Rattle.records.specs.Window.{overlay};
 ghost use Rattle.validator.specs.Results.{resultOf};
 ghost use Rattle.qaabireed.specs.Numbers.{refusedNumbers, resultNumbers, lookupNumbers, Narrow};
 ghost use Rattle.qaabireed.specs.Calls.{CheckCalled, LookupCalled};
-use lines::refusal_number;
+use fields::refusal_number;
 use lookups::LookupAnswer;
 use lookups::lookup;
 use rules::rule_number;

@@ -1,22 +1,10 @@
 // Reads files from standard input, each after its length in two bytes, and writes a line for each: `read`, or `refused N`.
 // Then does the same for the two limits on a file's length, which it builds in a buffer.
 ghost use Prim.Native.Nat.{_≤_};
-use fields::Refusal;
+use fields::refusal_number;
 use fields::word;
 use story::Opened;
 use story::read;
-
-// The number of a refusal.
-fn number(r: Refusal) -> u64 {
-    match r {
-        Refusal::Length => 1,
-        Refusal::Mark => 2,
-        Refusal::Starts => 3,
-        Refusal::Short => 4,
-        Refusal::Unknown => 5,
-        Refusal::Deep => 6,
-    }
-}
 
 // Writes the line for a file.
 fn print_answer(file: &[u8]) {
@@ -27,7 +15,7 @@ fn print_answer(file: &[u8]) {
         }
         Opened::Refused(r) => {
             io::write_all(1, b"refused ");
-            io::print_decimal(1, number(r));
+            io::print_decimal(1, refusal_number(r) as u64);
             io::write_all(1, b"\n");
         }
     }

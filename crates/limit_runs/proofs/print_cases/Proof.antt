@@ -1,16 +1,16 @@
 -- `print_cases`: the number of cases left falls, and the buffers keep their lengths. Assumes nothing.
 use mathlib.Core.Path.{_≡_}
-use Prim.Native.Nat.{_≤_, _-_}
+use Prim.Native.Nat.{_-_}
 use lib.ListN.{length}
 use borrow.Author.Needs.{needs}
 use Rattle.limit_runs.proofs.print_cases.Statement.{statement}
 use Rattle.limit_runs.proofs.print_cases.Tie as tie
 
 abbrev Inv-loop : tie.InvT-loop
-Inv-loop space₀ index₀ message₀ out₀ case₀ space index message out case = (case ≤ 15) × (length space ≡ length space₀) × (length index ≡ length index₀) × (length message ≡ length message₀) × (length out ≡ length out₀)
+Inv-loop first end space₀ index₀ message₀ out₀ case₀ space index message out case = (length space ≡ length space₀) × (length index ≡ length index₀) × (length message ≡ length message₀) × (length out ≡ length out₀)
 
 abbrev μ-loop : tie.MeasureT-loop
-μ-loop space₀ index₀ message₀ out₀ case₀ space index message out case = 15 - case
+μ-loop first end space₀ index₀ message₀ out₀ case₀ space index message out case = end - case
 
 pub print-cases-spec : {M : Type 1} → statement M
 print-cases-spec =

@@ -1,8 +1,8 @@
 -- `refusal_number`: each arm is a line of the definition. Assumes nothing.
 use Rattle.fields.specs.Refusals.{refusalNumber}
 use borrow.Author.Needs.{needs}
-use Rattle.lines.proofs.refusal_number.Statement.{statement}
-use Rattle.lines.proofs.refusal_number.Tie as tie
+use Rattle.fields.proofs.refusal_number.Statement.{statement}
+use Rattle.fields.proofs.refusal_number.Tie as tie
 
 returns : tie.Need-returns
 unfolding refusalNumber
