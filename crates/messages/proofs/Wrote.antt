@@ -6,7 +6,7 @@ use native.Mathlib.Nat.{add-assoc, le-antisymm, zero-add}
 use native.Mathlib.Numerals.{add-one}
 use native.Mathlib.Omega.{arith}
 use lib.ListN.{length, take, drop, getD, set, length-set, length-append}
-use lib.Seq.{paste, paste-zero, paste-suc, length-paste, take-paste, drop-paste, take-length, drop-drop}
+use lib.Seq.{paste, paste-zero, paste-suc, take-paste, drop-paste, take-length, drop-drop}
 use Rattle.names.specs.Words.{Bytes}
 use Rattle.rules.specs.declared.Rule.{Rule}
 use Rattle.messages.specs.Messages.{message, Wrote, Message}
@@ -37,9 +37,6 @@ module _ {buffer : List ℕ} {at : ℕ} {piece : Bytes} {i : ℕ} {now : List �
 module _ {a : List ℕ} {at : ℕ} {p : Bytes} {b : List ℕ} {n : ℕ} (w : Wrote a at p b n) (fits : at + length p ≤ length a) where
   copied : b ≡ paste a at p (length p)
   copied = w .written ∙ rw take-length
-
-  pub wrote-size : length b ≡ length a
-  wrote-size = ap length copied ∙ length-paste a at p (length p) fits (omega arith)
 
   wrote-take : take n b ≡ take at a ++ p
   wrote-take = rw (w .ends, copied) (take-paste a at p (length p) (omega arith) (omega arith) ∙ rw take-length)

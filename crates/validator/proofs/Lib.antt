@@ -1,3 +1,4 @@
+-- The laws on the check.
 pub mod Texts
 pub mod Reports
 pub mod Promise

@@ -15,6 +15,7 @@ use Rattle.validator.specs.declared.Answer.the-variants.{Breached}
 abbrev pub textAt : List ℕ → Rule → ℕ → ℕ → Bytes
 textAt file rule first second = message rule (nameAt file first) (nameAt file second)
 
+-- the answer is the breach with the length of its text, which stands at the message buffer's start; the rest stays
 pub record Told (file : List ℕ) (rule : Rule) (place first second entries : ℕ) (before : List ℕ) (r : Answer) (after : List ℕ) : Type 0 where
   pub answer : r ≡ Breached (record { rule = rule; place = place; first = first; second = second; entries = entries; message = length (textAt file rule first second) })
   pub written : after ≡ overlay (textAt file rule first second) before

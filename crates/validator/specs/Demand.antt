@@ -21,6 +21,7 @@ pub record Returns (file : List ℕ) (j : Judged) : Type 0 where
   pub size : ℕ
   pub judges : resultOf answer ≡ checked j entries size
 
+-- DEMAND 3, of whatever checks return
 pub record Demand3 : Type 0 where
   -- accepted exactly when no breach stands; else a breach that stands, and every other that stands is later
   pub right : (file : List ℕ) (j : Judged) → Returns file j → Right (storyOf file) j

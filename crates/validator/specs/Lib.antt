@@ -1,3 +1,4 @@
+-- The definitions on the check.
 pub mod Results
 pub mod Answers
 pub mod Check
