@@ -158,18 +158,18 @@ fn check_middling(file: &[u8], c: Sections, index: &mut [u32], message: &mut [u8
     )
 }
 
-// The story of a longer file, in buffers of some 1 MB.
+// The story of a longer file, in buffers of some 1.1 MB.
 fn check_long(file: &[u8], c: Sections, index: &mut [u32], message: &mut [u8]) -> Answer
     requires { ⌜ readOf (now file) ≡ Opened.At c ⌝ }
     requires { ⌜ (3 * c .end ≤ length (now index)) × (640 ≤ length (now message)) ⌝ }
     ensures { λ r. ⌜ Reported (storyReport (now (file .entry)) (storyIn c (now (file .entry)))) (now (index .entry)) (now (message .entry)) r (now (index .exit)) (now (message .exit)) ⌝ }
 {
-    let mut functions = [0u32; 32768];
-    let mut hints = [0u32; 131072];
-    let mut declared = [0u8; 65536];
-    let mut gathers = [0u8; 65536];
+    let mut functions = [0u32; 65536];
+    let mut hints = [0u32; 98304];
+    let mut declared = [0u8; 32768];
+    let mut gathers = [0u8; 131072];
     let mut batch = [0u32; 32768];
-    let mut scratch = [0u32; 16384];
+    let mut scratch = [0u32; 32768];
     check_story(
         file,
         c,
