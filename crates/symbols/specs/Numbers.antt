@@ -1,13 +1,17 @@
 -- The index as numbers: three an entry, and how entries are stored in it. Assumes nothing.
 use mathlib.Core.List.{List, [], _∷_}
 use mathlib.Core.Option.{Option, none, some}
-use Prim.Native.Nat.{ℕ, _+_, _*_, _/_}
+use Prim.Native.Nat.{ℕ, _+_, _-_, _*_, _/_}
 use lib.ListN.{length, set}
 use lib.Dec.{ltb}
 use Rattle.fields.specs.Bytes.{pick}
 use Rattle.story.specs.Story.{Name}
 use Rattle.symbols.specs.declared.Places.{Places}
 use Rattle.symbols.specs.Index.{Entry}
+
+-- THE ROOM of an index: three numbers for each byte before the trailer
+abbrev pub indexRoom : List ℕ → ℕ
+indexRoom file = 3 * (length file - 20)
 
 -- the number for no name
 abbrev pub absent : ℕ

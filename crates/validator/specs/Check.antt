@@ -1,5 +1,5 @@
 -- THE CHECK, for any bytes and any buffers: its result, and what it leaves in the index and in the message buffer.
-use Prim.Native.Nat.{ℕ, _-_, _*_}
+use Prim.Native.Nat.{ℕ}
 use mathlib.Core.List.{List, [], _∷_, map}
 use mathlib.Core.Option.{Option, none, some}
 use lib.ListN.{length}
@@ -14,7 +14,7 @@ use Rattle.story.specs.declared.Opened.the-variants as opened
 use Rattle.story.specs.Story.{Story}
 use Rattle.story.specs.File.{readOf, storyIn}
 use Rattle.symbols.specs.Index.{entries}
-use Rattle.symbols.specs.Numbers.{placesOf, numbers}
+use Rattle.symbols.specs.Numbers.{indexRoom, placesOf, numbers}
 use Rattle.rules.specs.Rules.{number}
 use Rattle.rules.specs.Steps.{Breach, verdict}
 use Rattle.messages.specs.Messages.{message}
@@ -48,11 +48,11 @@ storyReport file s = record {
   text = textOf file (verdict s);
 }
 
--- refusals 1 to 6 by reading; 7, the index is shorter than 3 × (L-20); 8, the message buffer is under 640
+-- refusals 1 to 6 by reading; 7, the index is shorter than its room, 3 × (L-20); 8, the message buffer is under 640
 unfoldable pub reportAt : Opened → List ℕ → ℕ → ℕ → Report
 reportAt (opened.Refused r) file index message = refusing (refusalNumber r)
 reportAt (opened.At c) file index message =
-    pick (ltb index (3 * (length file - 20))) (refusing 7)
+    pick (ltb index (indexRoom file)) (refusing 7)
     (pick (ltb message 640) (refusing 8) (storyReport file (storyIn c file)))
 
 -- THE REPORT on a file with buffers of these lengths
