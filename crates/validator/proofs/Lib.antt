@@ -5,3 +5,4 @@ pub mod Promise
 pub mod Determined
 pub mod Demand
 pub mod Examples
+pub mod Impostors
