@@ -1,0 +1,2 @@
+-- The claims, proved.
+pub mod Refusals

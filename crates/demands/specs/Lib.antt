@@ -1,0 +1,2 @@
+-- What is claimed of the callable functions.
+pub mod Refusals
