@@ -1,6 +1,7 @@
 // A lookup in an index that was filled with one number, and the line that shows what came of it.
 use fields::refusal_number;
 use lookups::LookupAnswer;
+use lookups::Target;
 use lookups::lookup;
 
 // What the index holds before most lookups.
@@ -18,24 +19,41 @@ fn print_numbered(word: &[u8], n: u64) {
     io::print_decimal(1, n);
 }
 
-// Writes the answer: its word, and the number of its refusal or entry.
-fn print_answer(answer: LookupAnswer) {
-    match answer {
-        LookupAnswer::Refused(r) => print_numbered(b"refused ", refusal_number(r) as u64),
-        LookupAnswer::ShortIndex => print_numbered(b"refused ", 7),
-        LookupAnswer::Pass => {
+// Writes what a target is: its word, and the number of its entry.
+fn print_found(found: Target) {
+    match found {
+        Target::Pass => {
             io::write_all(1, b"pass");
         }
-        LookupAnswer::Function => {
+        Target::Function => {
             io::write_all(1, b"function");
         }
-        LookupAnswer::Reserved => {
+        Target::Reserved => {
             io::write_all(1, b"reserved");
         }
-        LookupAnswer::Exact(k) => print_numbered(b"exact ", k as u64),
-        LookupAnswer::Ending(k) => print_numbered(b"ending ", k as u64),
-        LookupAnswer::Missing => {
+        Target::Exact(k) => print_numbered(b"exact ", k as u64),
+        Target::Ending(k) => print_numbered(b"ending ", k as u64),
+        Target::Missing => {
             io::write_all(1, b"missing");
+        }
+    }
+}
+
+// Writes the answer: what the target is, or the number of the refusal. The entry count, 0 where it is refused.
+fn print_answer(answer: LookupAnswer) -> usize {
+    match answer {
+        LookupAnswer::Refused(r) => {
+            print_numbered(b"refused ", refusal_number(r) as u64);
+            0
+        }
+        LookupAnswer::ShortIndex => {
+            print_numbered(b"refused ", 7);
+            0
+        }
+        LookupAnswer::Answered(a) => {
+            let found = a.target;
+            print_found(found);
+            a.entries
         }
     }
 }
@@ -113,11 +131,9 @@ fn print_entries(index: &[u32], entries: usize, n: u32) {
 // Fills the index with a number, looks the target up, and writes the line. The entry count.
 pub fn show(file: &[u8], index: &mut [u32], n: u32, target: &[u8]) -> usize {
     fill_index(index, n);
-    let result = lookup(file, index, target);
-    let answer = result.answer;
-    let entries = result.entries;
+    let answer = lookup(file, index, target);
     print_target(target);
-    print_answer(answer);
+    let entries = print_answer(answer);
     print_entries(index, entries, n);
     entries
 }

@@ -1,4 +1,4 @@
 -- The definitions on lookups.
-pub mod Lookup
+pub mod Results
 pub mod Meaning
-pub mod Numbers
+pub mod Lookup

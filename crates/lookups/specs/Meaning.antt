@@ -1,9 +1,8 @@
--- What an answer of a lookup says of a story, in the paper's numbers. Assumes nothing.
+-- What an answer of a lookup says of a story. Assumes nothing.
 use mathlib.Core.Path.{_≡_}
 use mathlib.Core.Bool.{Bool, true, false}
 use mathlib.Core.List.{List, [], _∷_}
 use mathlib.Core.Logic.{_↔_}
-use mathlib.Core.Option.{some}
 use Prim.Native.Nat.{ℕ, _<_}
 use lib.ListN.{length, getD}
 use Rattle.names.specs.Words.{Bytes, same, any, one-of, ends}
@@ -13,8 +12,7 @@ use Rattle.story.specs.Story.{Flow, Story}
 use Rattle.searches.specs.Called.{isFunction}
 use Rattle.symbols.specs.Fits.{answers}
 use Rattle.symbols.specs.Index.{spellings}
-use Rattle.lookups.specs.declared.LookupAnswer.{LookupAnswer}
-use Rattle.lookups.specs.Numbers.{answerNumber, entryNumber}
+use Rattle.lookups.specs.Results.{Answer, exact, ending, missing}
 
 -- the target is none of the three kinds that are preferred to an entry
 pub record Sought (flows : List Flow) (t : Bytes) : Type 0 where
@@ -28,11 +26,10 @@ pub record Matches (f : Bytes → Bool) (spelled : List Bytes) (k : ℕ) : Type 
   pub passes : f (getD spelled k []) ≡ true
 
 -- THE MEANING of an answer to the target
-pub record Meant (s : Story) (t : Bytes) (a : LookupAnswer) : Type 0 where
-  -- 3, Exact: the entry is spelled as the target
-  pub exact : (k : ℕ) → answerNumber a ≡ some 3 → entryNumber a ≡ some k → Sought (s .flows) t × Matches (same t) (spellings s) k
-  -- 4, Ending: none is spelled so, and the entry ends in "." and the target
-  pub ending : (k : ℕ) → answerNumber a ≡ some 4 → entryNumber a ≡ some k
-      → Sought (s .flows) t × (any (same t) (spellings s) ≡ false) × Matches (ends (46 ∷ t)) (spellings s) k
-  -- 5, Missing, exactly where nothing matches
-  pub missing : (answerNumber a ≡ some 5) ↔ (Sought (s .flows) t × (any (answers t) (spellings s) ≡ false))
+pub record Meant (s : Story) (t : Bytes) (a : Answer) : Type 0 where
+  -- Exact: the entry is spelled as the target
+  pub exact-matches : (k : ℕ) → a ≡ exact k → Sought (s .flows) t × Matches (same t) (spellings s) k
+  -- Ending: none is spelled so, and the entry ends in "." and the target
+  pub ending-matches : (k : ℕ) → a ≡ ending k → Sought (s .flows) t × (any (same t) (spellings s) ≡ false) × Matches (ends (46 ∷ t)) (spellings s) k
+  -- Missing, exactly where nothing matches
+  pub missing-means : (a ≡ missing) ↔ (Sought (s .flows) t × (any (answers t) (spellings s) ≡ false))

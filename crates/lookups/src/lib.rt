@@ -4,6 +4,7 @@ ghost use mathlib.Core.List.{_∷_};
 ghost use Rattle.names.specs.Words.{same, ends};
 ghost use Rattle.story.specs.File.{storyIn, InOrder};
 ghost use Rattle.symbols.specs.Rows.{spellingsIn, firstOf};
+ghost use Rattle.lookups.specs.Results.{answerOf};
 ghost use Rattle.lookups.specs.Lookup.{entryOf, targetOf, Looked};
 use fields::Refusal;
 use names::is_reserved;
@@ -17,10 +18,8 @@ use symbols::entries::write_index;
 use symbols::targets::find_ending;
 use symbols::targets::find_exact;
 
-// The reader's refusal, refusal 7, or what the target is: an entry is named by its number in the index, from 0.
-pub enum LookupAnswer {
-    Refused(Refusal),
-    ShortIndex,
+// What a target is: an entry is named by its number in the index, from 0.
+pub enum Target {
     Pass,
     Function,
     Reserved,
@@ -29,76 +28,71 @@ pub enum LookupAnswer {
     Missing,
 }
 
-// What a lookup returns: its answer, and how many entries the index has, 0 on a refusal.
-pub struct LookupResult {
-    pub answer: LookupAnswer,
+// What the target is, and how many entries the index has.
+pub struct Answered {
+    pub target: Target,
     pub entries: usize,
 }
 
+// What a lookup returns: the reader's refusal, refusal 7, or what it answers.
+pub enum LookupAnswer {
+    Refused(Refusal),
+    ShortIndex,
+    Answered(Answered),
+}
+
 // The first of so many entries that is spelled as the target, else the first that ends in "." and the target.
-fn lookup_entry(file: &[u8], index: &[u32], count: usize, target: &[u8]) -> LookupAnswer
-    ensures { λ r. ⌜ r ≡ entryOf (firstOf (same (now (target .entry))) 0 (spellingsIn (now (file .entry)) count (now (index .entry)))) (firstOf (ends (46 ∷ now (target .entry))) 0 (spellingsIn (now (file .entry)) count (now (index .entry)))) ⌝ }
+fn lookup_entry(file: &[u8], index: &[u32], count: usize, target: &[u8]) -> Target
+    ensures { λ r. ⌜ answerOf r ≡ entryOf (firstOf (same (now (target .entry))) 0 (spellingsIn (now (file .entry)) count (now (index .entry)))) (firstOf (ends (46 ∷ now (target .entry))) 0 (spellingsIn (now (file .entry)) count (now (index .entry)))) ⌝ }
 {
     let exact = find_exact(file, index, count, target);
     if let Found::At(k) = exact {
-        return LookupAnswer::Exact(k);
+        return Target::Exact(k);
     }
     let ending = find_ending(file, index, count, target);
     if let Found::At(k) = ending {
-        return LookupAnswer::Ending(k);
+        return Target::Ending(k);
     }
-    LookupAnswer::Missing
+    Target::Missing
 }
 
 // What the target is in a file with these sections, whose index has so many entries.
-fn lookup_target(
-    file: &[u8],
-    c: Sections,
-    index: &[u32],
-    count: usize,
-    target: &[u8],
-) -> LookupAnswer
+fn lookup_target(file: &[u8], c: Sections, index: &[u32], count: usize, target: &[u8]) -> Target
     requires { ⌜ InOrder c (now file) ⌝ }
-    ensures { λ r. ⌜ r ≡ targetOf (storyIn c (now (file .entry)) .flows) (spellingsIn (now (file .entry)) count (now (index .entry))) (now (target .entry)) ⌝ }
+    ensures { λ r. ⌜ answerOf r ≡ targetOf (storyIn c (now (file .entry)) .flows) (spellingsIn (now (file .entry)) count (now (index .entry))) (now (target .entry)) ⌝ }
 {
     if passes(target) {
-        return LookupAnswer::Pass;
+        return Target::Pass;
     }
     let flows = c.flows;
     let end = c.end;
     if is_function_name(&file[flows..end], target) {
-        return LookupAnswer::Function;
+        return Target::Function;
     }
     if is_reserved(target) {
-        return LookupAnswer::Reserved;
+        return Target::Reserved;
     }
     lookup_entry(file, index, count, target)
 }
 
 // Looks the target up: reads the file, writes the index as a check does, and finds what the target is.
-pub fn lookup(file: &[u8], index: &mut [u32], target: &[u8]) -> LookupResult
+pub fn lookup(file: &[u8], index: &mut [u32], target: &[u8]) -> LookupAnswer
     ensures { λ r. ⌜ Looked (now (file .entry)) (now (index .entry)) (now (target .entry)) r (now (index .exit)) ⌝ }
 {
     let opened = read(file);
     match opened {
-        Opened::Refused(r) => LookupResult {
-            answer: LookupAnswer::Refused(r),
-            entries: 0,
-        },
+        Opened::Refused(r) => LookupAnswer::Refused(r),
         Opened::At(c) => {
             if index.len() < 3 * c.end {
-                return LookupResult {
-                    answer: LookupAnswer::ShortIndex,
-                    entries: 0,
-                };
+                return LookupAnswer::ShortIndex;
             }
             let mut batch = [0u32; 1024];
             let count = write_index(file, c, index, &mut batch);
-            let answer = lookup_target(file, c, index, count, target);
-            LookupResult {
-                answer: answer,
+            let found = lookup_target(file, c, index, count, target);
+            LookupAnswer::Answered(Answered {
+                target: found,
                 entries: count,
-            }
+            })
         }
     }
 }

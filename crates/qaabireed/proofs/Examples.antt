@@ -2,8 +2,7 @@
 use mathlib.Core.Path.{_≡_, refl}
 use mathlib.Core.List.{[], _∷_}
 use Rattle.validator.specs.Results.{accepted, breach, refused, checked}
-use Rattle.lookups.specs.declared.LookupAnswer.the-variants.{ShortIndex, Exact, Missing}
-use Rattle.lookups.specs.Numbers.{refusalOf, answerNumber, entryNumber}
+use Rattle.lookups.specs.Results as lookup
 use Rattle.qaabireed.specs.Numbers.{resultNumbers, lookupNumbers}
 
 two-names : resultNumbers (checked (breach 14 13 (5, 18)) 2 52) ≡ 1 ∷ 14 ∷ 13 ∷ 5 ∷ 18 ∷ 2 ∷ 52 ∷ []
@@ -18,14 +17,14 @@ short-message : resultNumbers (refused 8) ≡ 2 ∷ 8 ∷ 4294967295 ∷ 4294967
 unfolding resultNumbers
 short-message = refl
 
-exact : lookupNumbers (Exact 1) 2 ≡ 0 ∷ 3 ∷ 1 ∷ 2 ∷ []
-unfolding lookupNumbers refusalOf answerNumber entryNumber
+exact : lookupNumbers (lookup.answered (lookup.exact 1) 2) ≡ 0 ∷ 3 ∷ 1 ∷ 2 ∷ []
+unfolding lookupNumbers
 exact = refl
 
-missing : lookupNumbers Missing 2 ≡ 0 ∷ 5 ∷ 4294967295 ∷ 2 ∷ []
-unfolding lookupNumbers refusalOf answerNumber entryNumber
+missing : lookupNumbers (lookup.answered lookup.missing 2) ≡ 0 ∷ 5 ∷ 4294967295 ∷ 2 ∷ []
+unfolding lookupNumbers
 missing = refl
 
-short-index : lookupNumbers ShortIndex 0 ≡ 2 ∷ 7 ∷ 4294967295 ∷ 0 ∷ []
-unfolding lookupNumbers refusalOf answerNumber entryNumber
+short-index : lookupNumbers (lookup.refused 7) ≡ 2 ∷ 7 ∷ 4294967295 ∷ 0 ∷ []
+unfolding lookupNumbers
 short-index = refl

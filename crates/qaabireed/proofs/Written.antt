@@ -17,10 +17,13 @@ use Rattle.validator.specs.Results.{resultOf}
 use Rattle.validator.specs.Checked.{Checked}
 use Rattle.lookups.specs.declared.LookupAnswer.{LookupAnswer}
 use Rattle.lookups.specs.declared.LookupAnswer.the-variants as answer
-use Rattle.lookups.specs.declared.LookupResult.{LookupResult}
+use Rattle.lookups.specs.declared.Answered.{Answered}
+use Rattle.lookups.specs.declared.Target.{Target}
+use Rattle.lookups.specs.declared.Target.the-variants as target
+use Rattle.lookups.specs.Results.{answerOf}
+use Rattle.lookups.specs.Results as lookup
 use Rattle.lookups.specs.Lookup.{Looked}
-use Rattle.lookups.specs.Numbers.{refusalOf, answerNumber, entryNumber}
-use Rattle.qaabireed.specs.Numbers.{resultNumbers, lookupNumbers, Narrow}
+use Rattle.qaabireed.specs.Numbers.{resultNumbers, answerNumbers, lookupNumbers, Narrow}
 use Rattle.qaabireed.specs.Calls.{CheckCalled, LookupCalled}
 
 -- numbers stored one after the other from the buffer's start
@@ -52,23 +55,37 @@ module _ {a : Answer} (w : Narrow (resultNumbers (resultOf a))) where
       let n = rw e at w in
       record { place = n .1 .1 .0; first = n .1 .1 .1 .0; second = n .1 .1 .1 .1 .0; entries = n .1 .1 .1 .1 .1 .0; message = n .1 .1 .1 .1 .1 .1 .0 }
 
+-- the entry count of an answer has 32 bits
+entries-fit : (a : lookup.Answer) (n : ℕ) → Narrow (answerNumbers a n) → n < 2 ^ 32
+entries-fit lookup.pass n w = w .1 .1 .1 .0
+entries-fit lookup.function n w = w .1 .1 .1 .0
+entries-fit lookup.reserved n w = w .1 .1 .1 .0
+entries-fit (lookup.exact k) n w = w .1 .1 .1 .0
+entries-fit (lookup.ending k) n w = w .1 .1 .1 .0
+entries-fit lookup.missing n w = w .1 .1 .1 .0
+
 -- likewise of a lookup's answer
-module _ (a : LookupAnswer) (n : ℕ) (w : Narrow (lookupNumbers a n)) where
-  pub lookup-refusal-fits : {r : Refusal} {m : ℕ} → a ≡ answer.Refused r → m ≡ refusalNumber r → m < 2 ^ 32
-  unfolding lookupNumbers refusalOf answerNumber entryNumber
+module _ {a : LookupAnswer} (w : Narrow (lookupNumbers (lookup.resultOf a))) where
+  pub lookup-refusal-fits : {r : Refusal} {n : ℕ} → a ≡ answer.Refused r → n ≡ refusalNumber r → n < 2 ^ 32
+  unfolding lookupNumbers lookup.resultOf
   lookup-refusal-fits e f = rw f ((rw e at w) .1 .0)
 
-  pub exact-fits : {k : ℕ} → a ≡ answer.Exact k → k < 2 ^ 32
-  unfolding lookupNumbers refusalOf answerNumber entryNumber
+  pub answered-fits : {f : Answered} → a ≡ answer.Answered f → Narrow (answerNumbers (answerOf (f .target)) (f .entries))
+  unfolding lookupNumbers lookup.resultOf
+  answered-fits e = rw e at w
+
+  pub answered-entries : {f : Answered} → a ≡ answer.Answered f → f .entries < 2 ^ 32
+  answered-entries {f} e = entries-fit (answerOf (f .target)) (f .entries) (answered-fits e)
+
+-- likewise of what a target is
+module _ (t : Target) (n : ℕ) (w : Narrow (answerNumbers (answerOf t) n)) where
+  pub exact-fits : {k : ℕ} → t ≡ target.Exact k → k < 2 ^ 32
+  unfolding answerOf
   exact-fits e = (rw e at w) .1 .1 .0
 
-  pub ending-fits : {k : ℕ} → a ≡ answer.Ending k → k < 2 ^ 32
-  unfolding lookupNumbers refusalOf answerNumber entryNumber
+  pub ending-fits : {k : ℕ} → t ≡ target.Ending k → k < 2 ^ 32
+  unfolding answerOf
   ending-fits e = (rw e at w) .1 .1 .0
-
-  pub entries-fit : n < 2 ^ 32
-  unfolding lookupNumbers
-  entries-fit = w .1 .1 .1 .0
 
 -- a call with too short a buffer
 pub call-refused : {file index message result : List ℕ} → length result < 7 → CheckCalled file index message result 1 index message result
@@ -101,12 +118,12 @@ lookup-refused {result = result} h = record {
   told = λ k. absurd (omega arith);
 }
 
-pub lookup-answered : {file index target result : List ℕ} {r : LookupResult} {index′ result′ : List ℕ} → 4 ≤ length result
-    → Looked file index target r index′ → result′ ≡ overlay (lookupNumbers (r .answer) (r .entries)) result
+pub lookup-answered : {file index target result : List ℕ} {a : LookupAnswer} {index′ result′ : List ℕ} → 4 ≤ length result
+    → Looked file index target a index′ → result′ ≡ overlay (lookupNumbers (lookup.resultOf a)) result
     → LookupCalled file index target result 0 index′ result′
-lookup-answered {result = result} {r = r} h l e = record {
+lookup-answered {result = result} {a = a} h l e = record {
   returned = rw (le-ltb (length result) 4 h);
   index-is = rw (le-ltb (length result) 4 h) (l .index);
-  result-is = rw (le-ltb (length result) 4 h, ← l .answer, ← l .entries) e;
-  told = λ k. record { returns = r; promise = l; numbers = e };
+  result-is = rw (le-ltb (length result) 4 h, ← l .result) e;
+  told = λ k. record { answer = a; promise = l; numbers = e };
 }

@@ -11,8 +11,9 @@ use Rattle.validator.specs.declared.Answer.{Answer}
 use Rattle.validator.specs.Results.{resultOf}
 use Rattle.validator.specs.Check.{reportOf}
 use Rattle.validator.specs.Checked.{Checked}
-use Rattle.lookups.specs.declared.LookupResult.{LookupResult}
-use Rattle.lookups.specs.Lookup.{lookupOf, lookupEntries, lookupIndex, Looked}
+use Rattle.lookups.specs.declared.LookupAnswer.{LookupAnswer}
+use Rattle.lookups.specs.Results as lookup
+use Rattle.lookups.specs.Lookup.{lookupOf, lookupIndex, Looked}
 use Rattle.qaabireed.specs.Numbers.{resultNumbers, lookupNumbers}
 
 -- a check's result has seven numbers
@@ -38,15 +39,15 @@ pub record CheckCalled (file index message result : List ℕ) (r : ℕ) (index�
 abbrev pub shortLookup : List ℕ → Bool
 shortLookup result = ltb (length result) 4
 
--- what is written keeps the promise of a lookup, and the result has the numbers of what it returns
+-- what is written keeps the promise of a lookup, and the result has the numbers of the answer
 pub record LookupTold (file index target result index′ result′ : List ℕ) : Type 0 where
-  pub returns : LookupResult
-  pub promise : Looked file index target returns index′
-  pub numbers : result′ ≡ overlay (lookupNumbers (returns .answer) (returns .entries)) result
+  pub answer : LookupAnswer
+  pub promise : Looked file index target answer index′
+  pub numbers : result′ ≡ overlay (lookupNumbers (lookup.resultOf answer)) result
 
 -- THE PROMISE of a call of the lookup, likewise
 pub record LookupCalled (file index target result : List ℕ) (r : ℕ) (index′ result′ : List ℕ) : Type 0 where
   pub returned : r ≡ pick (shortLookup result) 1 0
   pub index-is : index′ ≡ pick (shortLookup result) index (lookupIndex file index)
-  pub result-is : result′ ≡ pick (shortLookup result) result (overlay (lookupNumbers (lookupOf file (length index) target) (lookupEntries file (length index))) result)
+  pub result-is : result′ ≡ pick (shortLookup result) result (overlay (lookupNumbers (lookupOf file (length index) target)) result)
   pub told : 4 ≤ length result → LookupTold file index target result index′ result′

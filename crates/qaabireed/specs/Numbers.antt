@@ -1,10 +1,8 @@
 -- The numbers of a check's and of a lookup's result, as callers read them. Assumes nothing.
 use Prim.Native.Nat.{ℕ, _<_, _^_}
 use mathlib.Core.List.{List, [], _∷_}
-use mathlib.Core.Option.{Option, none, some}
 use Rattle.symbols.specs.Numbers.{absent}
-use Rattle.lookups.specs.declared.LookupAnswer.{LookupAnswer}
-use Rattle.lookups.specs.Numbers.{refusalOf, answerNumber, entryNumber}
+use Rattle.lookups.specs.Results as lookup
 use Rattle.validator.specs.Results.{Judged, accepted, breach, Result, refused, checked}
 
 -- outcome (0 accepted, 1 breach, 2 refused), number, place, first name, second name, entries, message length
@@ -21,20 +19,19 @@ unfoldable pub resultNumbers : Result → List ℕ
 resultNumbers (refused n) = refusedNumbers n
 resultNumbers (checked j entries size) = judgedNumbers j entries size
 
--- the number, or the other where there is none
-abbrev pub orElse : Option ℕ → ℕ → ℕ
-orElse none other = other
-orElse (some n) other = n
+-- outcome (0 answered, 2 refused), number, entry, entries
+abbrev pub answerNumbers : lookup.Answer → ℕ → List ℕ
+answerNumbers lookup.pass entries = 0 ∷ 0 ∷ absent ∷ entries ∷ []
+answerNumbers lookup.function entries = 0 ∷ 1 ∷ absent ∷ entries ∷ []
+answerNumbers lookup.reserved entries = 0 ∷ 2 ∷ absent ∷ entries ∷ []
+answerNumbers (lookup.exact k) entries = 0 ∷ 3 ∷ k ∷ entries ∷ []
+answerNumbers (lookup.ending k) entries = 0 ∷ 4 ∷ k ∷ entries ∷ []
+answerNumbers lookup.missing entries = 0 ∷ 5 ∷ absent ∷ entries ∷ []
 
--- 0 answered, 2 refused
-abbrev pub lookupOutcome : Option ℕ → ℕ
-lookupOutcome none = 0
-lookupOutcome (some refusal) = 2
-
--- THE NUMBERS of a lookup's result: outcome, number, entry, entries
-unfoldable pub lookupNumbers : LookupAnswer → ℕ → List ℕ
-lookupNumbers a entries =
-    lookupOutcome (refusalOf a) ∷ orElse (refusalOf a) (orElse (answerNumber a) absent) ∷ orElse (entryNumber a) absent ∷ entries ∷ []
+-- THE NUMBERS of a lookup's result
+unfoldable pub lookupNumbers : lookup.Result → List ℕ
+lookupNumbers (lookup.refused n) = 2 ∷ n ∷ absent ∷ 0 ∷ []
+lookupNumbers (lookup.answered a entries) = answerNumbers a entries
 
 -- each number has 32 bits
 abbrev pub Narrow : List ℕ → Type 0

@@ -5,10 +5,13 @@ ghost use Prim.Native.Nat.{_≤_, _<_, _^_};
 ghost use lib.ListN.{length};
 ghost use Rattle.records.specs.Window.{overlay};
 ghost use Rattle.validator.specs.Results.{resultOf};
-ghost use Rattle.qaabireed.specs.Numbers.{refusedNumbers, resultNumbers, lookupNumbers, Narrow};
+ghost use Rattle.lookups.specs.Results as lookup;
+ghost use Rattle.lookups.specs.Results.{answerOf};
+ghost use Rattle.qaabireed.specs.Numbers.{refusedNumbers, resultNumbers, answerNumbers, lookupNumbers, Narrow};
 ghost use Rattle.qaabireed.specs.Calls.{CheckCalled, LookupCalled};
 use fields::refusal_number;
 use lookups::LookupAnswer;
+use lookups::Target;
 use lookups::lookup;
 use rules::rule_number;
 use symbols::ABSENT;
@@ -110,21 +113,35 @@ fn put_four(result: &mut [u32], outcome: u32, number: u32, entry: u32, entries: 
     result[3] = entries;
 }
 
-// Writes the numbers of a lookup's answer, with the entry count.
-fn put_lookup(result: &mut [u32], answer: LookupAnswer, entries: u32)
+// Writes the numbers of what a target is, with the entry count.
+fn put_target(result: &mut [u32], target: Target, entries: u32)
     requires { ⌜ 4 ≤ length (now result) ⌝ }
-    requires { ⌜ Narrow (lookupNumbers answer entries) ⌝ }
-    ensures { λ _. ⌜ now (result .exit) ≡ overlay (lookupNumbers answer entries) (now (result .entry)) ⌝ }
+    requires { ⌜ Narrow (answerNumbers (answerOf target) entries) ⌝ }
+    ensures { λ _. ⌜ now (result .exit) ≡ overlay (answerNumbers (answerOf target) entries) (now (result .entry)) ⌝ }
+{
+    match target {
+        Target::Pass => put_four(result, 0, 0, ABSENT, entries),
+        Target::Function => put_four(result, 0, 1, ABSENT, entries),
+        Target::Reserved => put_four(result, 0, 2, ABSENT, entries),
+        Target::Exact(k) => put_four(result, 0, 3, k as u32, entries),
+        Target::Ending(k) => put_four(result, 0, 4, k as u32, entries),
+        Target::Missing => put_four(result, 0, 5, ABSENT, entries),
+    }
+}
+
+// Writes the numbers of a lookup's answer.
+fn put_lookup(result: &mut [u32], answer: LookupAnswer)
+    requires { ⌜ 4 ≤ length (now result) ⌝ }
+    requires { ⌜ Narrow (lookupNumbers (lookup.resultOf answer)) ⌝ }
+    ensures { λ _. ⌜ now (result .exit) ≡ overlay (lookupNumbers (lookup.resultOf answer)) (now (result .entry)) ⌝ }
 {
     match answer {
-        LookupAnswer::Refused(r) => put_four(result, 2, refusal_number(r) as u32, ABSENT, entries),
-        LookupAnswer::ShortIndex => put_four(result, 2, 7, ABSENT, entries),
-        LookupAnswer::Pass => put_four(result, 0, 0, ABSENT, entries),
-        LookupAnswer::Function => put_four(result, 0, 1, ABSENT, entries),
-        LookupAnswer::Reserved => put_four(result, 0, 2, ABSENT, entries),
-        LookupAnswer::Exact(k) => put_four(result, 0, 3, k as u32, entries),
-        LookupAnswer::Ending(k) => put_four(result, 0, 4, k as u32, entries),
-        LookupAnswer::Missing => put_four(result, 0, 5, ABSENT, entries),
+        LookupAnswer::Refused(r) => put_four(result, 2, refusal_number(r) as u32, ABSENT, 0),
+        LookupAnswer::ShortIndex => put_four(result, 2, 7, ABSENT, 0),
+        LookupAnswer::Answered(a) => {
+            let target = a.target;
+            put_target(result, target, a.entries as u32)
+        }
     }
 }
 
@@ -141,9 +158,7 @@ pub extern "C" fn qaabireed_lookup(
     if result.len() < 4 {
         return RESULT_TOO_SHORT;
     }
-    let found = lookup(file, index, target);
-    let answer = found.answer;
-    let entries = found.entries;
-    put_lookup(result, answer, entries as u32);
+    let answer = lookup(file, index, target);
+    put_lookup(result, answer);
     OK
 }

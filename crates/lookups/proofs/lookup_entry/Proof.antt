@@ -1,4 +1,5 @@
 -- `lookups::lookup_entry` meets its contract, by what the two searches found. Assumes nothing.
+use Rattle.lookups.specs.Results.{answerOf}
 use Rattle.lookups.specs.Lookup.{endingOf, entryOf}
 use borrow.Author.Needs.{needs}
 use Rattle.lookups.proofs.lookup_entry.Statement.{statement}
@@ -11,7 +12,7 @@ enum-known-exact : tie.Need-enum-known-exact
 enum-known-exact c = search needs
 
 returns : tie.Need-returns
-unfolding entryOf
+unfolding answerOf entryOf
 returns c = rw (← c .before .before .before .find-exact .ensures, c .before .exact .given .1)
 
 enum-told : tie.Need-enum-told
@@ -24,7 +25,7 @@ enum-known-ending : tie.Need-enum-known-ending
 enum-known-ending c = search needs
 
 returns-2 : tie.Need-returns-2
-unfolding entryOf endingOf
+unfolding answerOf entryOf endingOf
 returns-2 c =
     let at-enum-told = c .before .before .before .before in
     let at-find-exact = at-enum-told .before .before in
@@ -34,7 +35,7 @@ enum-told-2 : tie.Need-enum-told-2
 enum-told-2 c = search needs
 
 returns-3 : tie.Need-returns-3
-unfolding entryOf endingOf
+unfolding answerOf entryOf endingOf
 returns-3 c =
     let at-find-exact = c .before .before .before .before .before in
     rw (← at-find-exact .find-exact .ensures, c .before .before .before .enum-told .given .1, ← c .before .before .find-ending .ensures, c .enum-told2 .given .1)

@@ -1,4 +1,5 @@
 -- `lookups::lookup_target` meets its contract, by its tests in the order of preference. Assumes nothing.
+use Rattle.lookups.specs.Results.{answerOf}
 use Rattle.lookups.specs.Lookup.{targetOf}
 use Rattle.lookups.proofs.Answers.{function-answer}
 use borrow.Author.Needs.{needs}
@@ -9,7 +10,7 @@ passes-requires : tie.Need-passes-requires
 passes-requires c κs = search needs
 
 returns : tie.Need-returns
-unfolding targetOf
+unfolding answerOf targetOf
 returns c = rw (← c .before .passes .ensures, c .if1 .taken)
 
 sub-is-function-name : tie.Need-sub-is-function-name
@@ -25,7 +26,7 @@ is-function-name-requires : tie.Need-is-function-name-requires
 is-function-name-requires c κs = search needs
 
 returns-2 : tie.Need-returns-2
-unfolding targetOf
+unfolding answerOf targetOf
 returns-2 c =
     let at-passes = c .before .before .before .before in
     let start = at-passes .before .before .before .before in
@@ -37,7 +38,7 @@ is-reserved-requires : tie.Need-is-reserved-requires
 is-reserved-requires c κs = search needs
 
 returns-3 : tie.Need-returns-3
-unfolding targetOf
+unfolding answerOf targetOf
 returns-3 c =
     let at-if1 = c .before .before .before .before .before in
     let at-passes = at-if1 .before in

@@ -1,16 +1,12 @@
 -- `qaabireed_lookup` meets its contract: where the buffer is long enough, the lookup's answer is written as numbers. Assumes nothing.
-use native.Mathlib.Omega.{arith}
 use borrow.Author.Needs.{needs}
 use Rattle.qaabireed.proofs.Lookups.{looked-narrow}
-use Rattle.qaabireed.proofs.Written.{entries-fit, lookup-refused, lookup-answered}
+use Rattle.qaabireed.proofs.Written.{lookup-refused, lookup-answered}
 use Rattle.qaabireed.proofs.qaabireed_lookup.Statement.{statement}
 use Rattle.qaabireed.proofs.qaabireed_lookup.Tie as tie
 
 returns : tie.Need-returns
 returns c = lookup-refused (c .if1 .taken)
-
-cast-put-lookup : tie.Need-cast-put-lookup
-cast-put-lookup c = omega (arith, entries-fit _ _ (looked-narrow (c .before .before .before .lookup .ensures)))
 
 put-lookup-requires : tie.Need-put-lookup-requires
 put-lookup-requires c κs = (search needs, looked-narrow (c .before .before .before .lookup .ensures))
@@ -27,7 +23,6 @@ qaabireed-lookup-spec =
     (tie.spec
     returns
     (λ c κs. search needs)
-    cast-put-lookup
     put-lookup-requires
     (λ c. search needs)
     (λ c. search needs)
