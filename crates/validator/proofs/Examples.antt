@@ -1,4 +1,4 @@
--- P1 to P10 as one table: input, lengths of the buffers, and what the check reports; and an example of each refusal. Assumes nothing.
+-- P1 to P10 as one table: input, lengths of the buffers, and what the check reports; rows beside them; and an example of each refusal. Assumes nothing.
 use mathlib.Core.Path.{_≡_, refl}
 use mathlib.Core.Bool.{Bool, true, false}
 use mathlib.Core.List.{List, [], _∷_, _++_, map, List·Memᴰ·not-nil, List·Memᴰ·cases-cons, List·Memᴰ·append-cases}
@@ -136,6 +136,51 @@ table =
     (checked accepted 2 0) (absent ∷ absent ∷ 5 ∷ 5 ∷ absent ∷ 30 ∷ []) (ascii "")
     ∷ []
 
+-- ITS NEIGHBOURS: rule 11 beside P9, by how a choice's body ends and by where the choice stands; and breaches in two stitches and in two flows,
+-- of which the first's is reported, though the rule and the step of the second's are lower
+unfoldable pub neighbours : List Row
+neighbours =
+    -- a choice in a conditional, in a knot: its body a tunnel
+    row (hex "2d00000000016b000024000000081f0000000000000000150000000e100000000000000000070000000402000000016b00" ++ hex "00000000000000000000000000000000494b0100") 147 640
+    (checked (breach 11 27 (absent, absent)) 1 61) (absent ∷ absent ∷ 5 ∷ []) (ascii "Choices with conditions need to explicitly divert afterwards.")
+    ∷
+    -- a thread
+    row (hex "2d00000000016b000024000000081f0000000000000000150000000e100000000000000000070000000502000000016b00" ++ hex "00000000000000000000000000000000494b0100") 147 640
+    (checked (breach 11 27 (absent, absent)) 1 61) (absent ∷ absent ∷ 5 ∷ []) (ascii "Choices with conditions need to explicitly divert afterwards.")
+    ∷
+    -- a divert, then a Newline
+    row (hex "3200000000016b000029000000082400000000000000001a0000000e1500000000000000000c0000000302000000016b010000000000" ++ hex "00000000000000000000000000000000494b0100") 162 640
+    (checked accepted 1 0) (absent ∷ absent ∷ 5 ∷ []) (ascii "")
+    ∷
+    -- plain
+    row (hex "2b00000000016b000022000000081d0000000000000000130000000e0e000000000000000005000000000000000000" ++ hex "00000000000000000000000000000000494b0100") 141 640
+    (checked (breach 11 27 (absent, absent)) 1 61) (absent ∷ absent ∷ 5 ∷ []) (ascii "Choices with conditions need to explicitly divert afterwards.")
+    ∷
+    -- a divert, then plain
+    row (hex "3200000000016b000029000000082400000000000000001a0000000e1500000000000000000c0000000302000000016b000000000000" ++ hex "00000000000000000000000000000000494b0100") 162 640
+    (checked (breach 11 27 (absent, absent)) 1 61) (absent ∷ absent ∷ 5 ∷ []) (ascii "Choices with conditions need to explicitly divert afterwards.")
+    ∷
+    -- without a body, in the second branch
+    row (hex "2a00000000016b000021000000081c000000000000000000000000010e0000000e09000000000000000000000000" ++ hex "00000000000000000000000000000000494b0100") 138 640
+    (checked (breach 11 32 (absent, absent)) 1 61) (absent ∷ absent ∷ 5 ∷ []) (ascii "Choices with conditions need to explicitly divert afterwards.")
+    ∷
+    -- in a branch of a switch
+    row (hex "2600000000016b00001d00000009180000000000000000000e0000000e09000000000000000000000000" ++ hex "00000000000000000000000000000000494b0100") 126 640
+    (checked (breach 11 28 (absent, absent)) 1 61) (absent ∷ absent ∷ 5 ∷ []) (ascii "Choices with conditions need to explicitly divert afterwards.")
+    ∷
+    -- in a sequence in a branch
+    row (hex "2f00000000016b00002600000008210000000000000000170000000a120000000e0000000e0900000000000000000000000000" ++ hex "00000000000000000000000000000000494b0100") 153 640
+    (checked accepted 1 0) (absent ∷ absent ∷ 5 ∷ []) (ascii "")
+    ∷
+    -- two broken stitches in a knot: gathers a twice in the first, -> x in the second
+    row (hex "3600000000016b00000000000016000000017300000e0000000f0200000001610f0200000001610f000000017400000700000003020000000178" ++ hex "00000000000000000000000000000000494b0100") 174 640
+    (checked (breach 10 32 (37, absent)) 5 68) (absent ∷ absent ∷ 5 ∷ 5 ∷ absent ∷ 17 ∷ 5 ∷ 17 ∷ 30 ∷ 5 ∷ 17 ∷ 37 ∷ 5 ∷ absent ∷ 43 ∷ []) (ascii "A gather point with the same label 'a' already exists in this scope.")
+    ∷
+    -- two broken knots: gathers a twice in the first, -> x in the second
+    row (hex "1700000000016b00000e0000000f0200000001610f0200000001611000000000016c00000700000003020000000178" ++ hex "00000000000000000000000000000000494b0100") 141 640
+    (checked (breach 10 20 (25, absent)) 4 68) (absent ∷ absent ∷ 5 ∷ 5 ∷ absent ∷ 18 ∷ 5 ∷ absent ∷ 25 ∷ absent ∷ absent ∷ 32 ∷ []) (ascii "A gather point with the same label 'a' already exists in this scope.")
+    ∷ []
+
 -- THE REFUSALS: 01's example of each
 
 -- a record of the kind
@@ -188,11 +233,12 @@ refusals =
 -- the check reports what the tables have, in each row
 pub record Examples : Type 0 where
   pub p1-to-p10 : map reported table ≡ map (λ (r : Row). r .report) table
+  pub beside-them : map reported neighbours ≡ map (λ (r : Row). r .report) neighbours
   pub each-refusal : map reported refusals ≡ map (λ (r : Row). r .report) refusals
 
 pub examples : Examples
-unfolding reported digit hex row table headed negated rooted refusal refusals headOf listOf nameOf flagOf exprKind condKind nodeKind kindOf refusalNumber nameAt builtins andThen shift met ends frontAt ending repeatN repeat exact listedAt namedAt flaggedAt moded last orElse arms options tested branch bodyOf whole tooDeep recordOf nodes nameIn sortOf nameStart nameless recordName isLabelled inBranch endingAt endingN endWithDivert spanned past unlabelled choiceBody leaves whatOf itemAs itemOf itemsAs itemsIn reachAt namesReach countedReach listAt marksAt paramsAt nameThen headingOf names namesThen counted pieceAt titled stitch flow flows namesN namesIn countedIn part titledAt titledIn piecesAt piecesN piecesIn stitchIn stitchesFrom flowIn flowsIn marked startAt openedOf sectionsRead readEnded readAt readOf storyIn labelled stitchEntries flowEntries entries numbers broken known here over stitchRuns flowRuns runs breaches verdict message judgedOf textOf storyReport reportAt reportOf
-examples = record { p1-to-p10 = refl; each-refusal = refl }
+unfolding reported digit hex row table neighbours headed negated rooted refusal refusals headOf listOf nameOf flagOf exprKind condKind nodeKind kindOf refusalNumber nameAt builtins andThen shift met ends frontAt ending repeatN repeat exact listedAt namedAt flaggedAt moded last orElse arms options tested branch bodyOf whole tooDeep recordOf nodes nameIn sortOf nameStart nameless recordName isLabelled inBranch endingAt endingN endWithDivert spanned past unlabelled choiceBody leaves whatOf itemAs itemOf itemsAs itemsIn reachAt namesReach countedReach listAt marksAt paramsAt nameThen headingOf names namesThen counted pieceAt titled stitch flow flows namesN namesIn countedIn part titledAt titledIn piecesAt piecesN piecesIn stitchIn stitchesFrom flowIn flowsIn marked startAt openedOf sectionsRead readEnded readAt readOf storyIn labelled stitchEntries flowEntries entries numbers broken known here over stitchRuns flowRuns runs breaches verdict message judgedOf textOf storyReport reportAt reportOf
+examples = record { p1-to-p10 = refl; beside-them = refl; each-refusal = refl }
 
 -- OF CHECKS: where a check is lent a row's file and buffers of its lengths, it answers and leaves what the row has
 
@@ -200,11 +246,13 @@ row-reports : (l : List Row) → map reported l ≡ map (λ (r : Row). r .report
 row-reports [] e row m = absurd (List·Memᴰ·not-nil m)
 row-reports (x ∷ xs) e row m = ⊎-elim (λ i. rw i (cc)) (row-reports xs (cc) row) (List·Memᴰ·cases-cons m)
 
-pub examples-of-checks : (row : Row) → row ∈ (table ++ refusals) → {index message : List ℕ} {r : Answer} {index′ message′ : List ℕ}
+pub examples-of-checks : (row : Row) → row ∈ (table ++ (neighbours ++ refusals)) → {index message : List ℕ} {r : Answer} {index′ message′ : List ℕ}
     → length index ≡ row .index → length message ≡ row .message → Checked (row .file) index message r index′ message′
     → Reported (row .report) index message r index′ message′
 unfolding reported
 examples-of-checks row m e f p =
     let same : reported row ≡ row .report =
-    ⊎-elim (row-reports table (examples .p1-to-p10) row) (row-reports refusals (examples .each-refusal) row) (List·Memᴰ·append-cases table m) in
+    ⊎-elim (row-reports table (examples .p1-to-p10) row)
+    (λ n. ⊎-elim (row-reports neighbours (examples .beside-them) row) (row-reports refusals (examples .each-refusal) row) (List·Memᴰ·append-cases neighbours n))
+    (List·Memᴰ·append-cases table m) in
     rw same at (rw (e, f) at (p .reported))
