@@ -12,6 +12,8 @@ pub mod Spellings
 pub mod Order
 pub mod Demand
 pub mod Sorts
+pub mod Branches
+pub mod Choices
 pub mod Files
 pub mod Reader
 pub mod FileDemand

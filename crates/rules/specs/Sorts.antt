@@ -1,11 +1,23 @@
--- Which records the steps visit, and as what, in the paper's words: by a record's role, its kind byte and its payload. Assumes nothing.
+-- Which records the steps visit, and as what, in the paper's words: by a record's role, its kind byte and its payload; and rule 11's two statements.
+-- Assumes nothing.
 use mathlib.Core.Path.{_≡_}
 use mathlib.Core.Logic.{_⊎_}
-use mathlib.Core.List.{List}
-use Prim.Native.Nat.{ℕ}
-use lib.ListN.{getD}
+use mathlib.Core.List.{List, [], _∷_, _++_}
+use Prim.Native.Nat.{ℕ, _+_}
+use lib.ListN.{getD, take, drop}
 use Rattle.fields.specs.declared.Role.{Role}
 use Rattle.fields.specs.declared.Role.the-variants.{Node, Branch, Cond, Visited, Argument}
+use Rattle.fields.specs.declared.Body.{Body}
+use Rattle.fields.specs.declared.Kinded.the-variants.{Known}
+use Rattle.fields.specs.declared.Head.the-variants as head
+use Rattle.fields.specs.declared.Span.the-variants as span
+use Rattle.fields.specs.declared.NameRead.the-variants as name
+use Rattle.fields.specs.declared.FlagRead.the-variants as flag
+use Rattle.fields.specs.Bytes.{headOf, listOf, nameOf, flagOf}
+use Rattle.fields.specs.Kinds.{kindOf}
+use Rattle.names.specs.Words.{_∈_}
+use Rattle.records.specs.Trace.{done, emit, Record, met}
+use Rattle.records.specs.Grammar.{Reader, bodyOf}
 use Rattle.story.specs.Story.{Kind, plain, temp, divert, tunnel, thread, call, variable, argument, choice, gather, parameter, stitchName, flowStart}
 
 -- a node: also one directly in a branch of kind 8 or 9
@@ -29,3 +41,69 @@ VisitedAs plain r kind payload = ⊥
 VisitedAs parameter r kind payload = ⊥
 VisitedAs stitchName r kind payload = ⊥
 VisitedAs flowStart r kind payload = ⊥
+
+-- RULE 11: directly in a branch of kind 8 or 9
+
+-- a record by itself, without those inside it
+abbrev pub alone : Role → Reader
+alone role kind payload = emit role kind 0 payload done
+
+-- the record r is directly in the record q: met where the payload of q is read as its kind says, and no record inside is gone into
+pub record DirectlyIn (q r : Record) : Type 0 where
+  pub body : Body
+  pub of-kind : kindOf (q .role) (q .kind) ≡ Known body
+  pub met-there : r ∈ met (q .place + 5) (bodyOf body alone (q .payload))
+
+-- among these records: a node directly in a node of kind 8 or 9, so in a branch, since what stands before the branches is no node
+pub record InBranch (rs : List Record) (r : Record) : Type 0 where
+  pub node : IsNode (r .role)
+  pub owner : Record
+  pub there : owner ∈ rs
+  pub owner-node : IsNode (owner .role)
+  pub of-kind : (owner .kind ≡ 8) ⊎ (owner .kind ≡ 9)
+  pub inside : DirectlyIn owner r
+
+-- RULE 11: the body's last non-Newline is there, and of kinds 3, 6, 7, 11, 12
+
+-- a name, and what follows it
+abbrev pub NameThen : List ℕ → List ℕ → Type 0
+NameThen s rest = (n : ℕ) × (nameOf s ≡ name.Bytes n) × (rest ≡ drop (1 + n) s)
+
+-- a list with these bytes inside, and what follows it
+abbrev pub ListThen : List ℕ → List ℕ → List ℕ → Type 0
+ListThen s inside rest = (n : ℕ) × (listOf s ≡ span.Bytes n) × (inside ≡ take n (drop 4 s)) × (rest ≡ drop (4 + n) s)
+
+-- a flag, a label name if it is 1, and what follows
+abbrev pub LabelThen : List ℕ → List ℕ → Type 0
+LabelThen s rest = ((flagOf s ≡ flag.Off) × (rest ≡ drop 1 s)) ⊎ ((flagOf s ≡ flag.On) × NameThen (drop 1 s) rest)
+
+-- the payload of a choice: flag, label name if 1, condition list, node list, which is its body
+pub record ChoiceOf (payload conditions body : List ℕ) : Type 0 where
+  pub lists : List ℕ
+  pub last-list : List ℕ
+  pub label : LabelThen payload lists
+  pub first : ListThen lists conditions last-list
+  pub second : ListThen last-list body []
+
+-- records of these kinds, one after the other, and nothing more
+abbrev pub Kinds : List ℕ → List ℕ → Type 0
+Kinds [] s = s ≡ []
+Kinds (kind ∷ kinds) s = (n : ℕ) × (headOf s ≡ head.Piece kind n) × Kinds kinds (drop (5 + n) s)
+
+-- the last kind that is no Newline's is there, and is 3, 6, 7, 11 or 12
+pub record LastLeaves (kinds : List ℕ) : Type 0 where
+  pub before : List ℕ
+  pub kind : ℕ
+  pub after : List ℕ
+  pub all : kinds ≡ before ++ (kind ∷ after)
+  pub leaving : kind ∈ (3 ∷ 6 ∷ 7 ∷ 11 ∷ 12 ∷ [])
+  pub newlines : (k : ℕ) → k ∈ after → k ≡ 1
+
+-- the payload is a choice's, whose body's last non-Newline leaves
+pub record Leaves (payload : List ℕ) : Type 0 where
+  pub conditions : List ℕ
+  pub body : List ℕ
+  pub kinds : List ℕ
+  pub parts : ChoiceOf payload conditions body
+  pub records : Kinds kinds body
+  pub last : LastLeaves kinds
