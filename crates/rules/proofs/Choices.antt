@@ -1,8 +1,8 @@
 -- Rule 11's statements and the tests that compute: a choice is directly in a branch, and its body's last non-Newline leaves. Assumes nothing.
 use mathlib.Core.Path.{_≡_, refl, sym, _∙_, ap}
 use mathlib.Core.Bool.{Bool, true, false}
-use mathlib.Core.List.{List, [], _∷_, _++_, List·Memᴰ·head, List·Memᴰ·tail, List·Memᴰ·not-nil, List·Memᴰ·cases-cons, Memᴰ·cast}
-use mathlib.Core.Logic.{_⊎_, inl, inr, ⊎-elim}
+use mathlib.Core.List.{List, [], _∷_, _++_, map, List·Memᴰ·head, List·Memᴰ·tail, List·Memᴰ·not-nil, List·Memᴰ·cases-cons, Memᴰ·cast}
+use mathlib.Core.Logic.{_⊎_, _↔_, inl, inr, ⊎-elim}
 use Prim.Native.Nat.{ℕ, zero, suc, _+_, _≤_}
 use native.Mathlib.Omega.{arith}
 use lib.Dec.{T, eqb, ltb, eqb→eq, eqb-refl}
@@ -33,14 +33,19 @@ use Rattle.records.specs.Trace.{Trace, andThen, shift, Record, met, well, refus
 use Rattle.records.specs.Grammar.{Reading, Reader, frontAt, front, ending, repeat, records, listedAt, listed, namedAt, named, flaggedAt, flagged, last, options, bodyOf, recordOf, nodes}
 use Rattle.records.proofs.Traces.{shift-then, shift-shift, then-done, shift-done}
 use Rattle.records.proofs.Readings.{front-local, repeat-step}
-use Rattle.story.specs.Story.{choice}
+use Rattle.story.specs.Story.{Kind, plain, temp, divert, tunnel, thread, call, variable, argument, choice, gather, parameter, stitchName, flowStart, code, What, Item, Story}
 use Rattle.story.specs.Items.{sortOf, inBranch, leaving, endingAt, endingN, endWithDivert, spanned, past, unlabelled, choiceBody, leaves, whatOf, itemAs, itemOf}
 use Rattle.story.proofs.Endings.{ends-then, ends-shift, first-well, second-well}
 use Rattle.story.proofs.Unfolding.{name-count}
 use Rattle.story.proofs.WellInside.{Bears, record-bears}
-use Rattle.rules.specs.Sorts.{VisitedAs, InBranch, NameThen, ListThen, LabelThen, ChoiceOf, Kinds, LastLeaves, Leaves}
-use Rattle.rules.proofs.Sorts.{visited-sort}
+use Rattle.rules.specs.declared.Rule.the-variants.{ChoiceUndiverted}
+use Rattle.rules.specs.Rules.{Scope}
+use Rattle.rules.specs.Meaning.{Is, Broken}
+use Rattle.rules.specs.Reader.{Readable, storyOf}
+use Rattle.rules.specs.Sorts.{VisitedAs, InBranch, NameThen, ListThen, LabelThen, ChoiceOf, Kinds, LastLeaves, Leaves, Undiverted, BodyOf}
+use Rattle.rules.proofs.Sorts.{visited-sort, sort-visited}
 use Rattle.rules.proofs.Branches.{in-branch}
+use Rattle.rules.proofs.FileBodies.{file-bodies}
 
 -- 1. The last kind that is no Newline's
 
@@ -308,3 +313,49 @@ item-leaves b s good r m v =
     let h = record-bears b s good r m in
     let same : h .body ≡ body.Choice = cc (h .known, choice-known (r .role) (r .kind) (r .payload) v) in
     rw (visited-sort choice (r .role) (r .kind) (r .payload) v) (choice-leaves (recordOf (h .left)) (r .payload) (rw same at (h .inside)))
+
+-- 6. Rule 11, of the records of a body and of the bodies of a file
+
+choice-code : (k : Kind) → code choice ≡ code k → k ≡ choice
+choice-code plain e = absurd (omega arith)
+choice-code temp e = absurd (omega arith)
+choice-code divert e = absurd (omega arith)
+choice-code tunnel e = absurd (omega arith)
+choice-code thread e = absurd (omega arith)
+choice-code call e = absurd (omega arith)
+choice-code variable e = absurd (omega arith)
+choice-code argument e = absurd (omega arith)
+choice-code choice e = refl
+choice-code gather e = absurd (omega arith)
+choice-code parameter e = absurd (omega arith)
+choice-code stitchName e = absurd (omega arith)
+choice-code flowStart e = absurd (omega arith)
+
+-- the item of a record is a choice where the record is
+is-choice : (r : Record) → Is choice (itemOf r .what) ↔ VisitedAs choice (r .role) (r .kind) (r .payload)
+unfolding itemOf itemAs whatOf
+is-choice r = (λ e. by-sort (choice-code (sortOf (r .role) (r .kind) (r .payload)) e), λ v. rw (visited-sort choice (r .role) (r .kind) (r .payload) v))
+  where
+    by-cases : (choice ≡ plain) ⊎ VisitedAs choice (r .role) (r .kind) (r .payload) → VisitedAs choice (r .role) (r .kind) (r .payload)
+    by-cases (inl e) = let z : _≡_ {A = ℕ} 0 1 = cc in absurd (omega arith)
+    by-cases (inr v) = v
+
+    by-sort : sortOf (r .role) (r .kind) (r .payload) ≡ choice → VisitedAs choice (r .role) (r .kind) (r .payload)
+    by-sort e = by-cases (rw e at (sort-visited (r .role) (r .kind) (r .payload)))
+
+-- the item of a record breaks rule 11 where the record is an undiverted choice
+pub breaks-11 : (b : ℕ) (t : List ℕ) → ends (nodes t) ≡ well → (r : Record) → r ∈ met b (nodes t)
+    → (s : Story) (scope : Scope) (before : List What) → Broken s scope before ChoiceUndiverted (itemOf r .what) ↔ Undiverted (met b (nodes t)) r
+unfolding Broken
+breaks-11 b t good r m s scope before = (
+  λ h. let v = is-choice r .0 (h .0) in (v, item-branch b t good r m .to (h .1), λ l. h .2 (item-leaves b t good r m v .from l)),
+  λ h. (is-choice r .1 (h .0), item-branch b t good r m .from (h .1), λ l. h .2 (item-leaves b t good r m (h .0) .to l)),
+)
+
+-- RULE 11: the items of each body of a readable file are those of records, and break rule 11 where these are undiverted choices
+pub rule-11 : (file : List ℕ) → Readable file → (items : List Item) → BodyOf (storyOf file) items
+    → (rs : List Record)
+    × (items ≡ map itemOf rs)
+    × ((r : Record) → r ∈ rs → (s : Story) (scope : Scope) (before : List What) → Broken s scope before ChoiceUndiverted (itemOf r .what) ↔ Undiverted rs r)
+rule-11 file readable items b =
+    let w = file-bodies file readable items b in (met (w .at) (nodes (w .bytes)), w .all, breaks-11 (w .at) (w .bytes) (w .good))

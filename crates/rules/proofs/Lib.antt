@@ -12,10 +12,11 @@ pub mod Spellings
 pub mod Order
 pub mod Demand
 pub mod Sorts
-pub mod Branches
-pub mod Choices
 pub mod Files
 pub mod Reader
+pub mod Branches
+pub mod FileBodies
+pub mod Choices
 pub mod FileDemand
 pub mod Examples
 pub mod FileExamples

@@ -18,7 +18,7 @@ use Rattle.fields.specs.Kinds.{kindOf}
 use Rattle.names.specs.Words.{_∈_}
 use Rattle.records.specs.Trace.{done, emit, Record, met}
 use Rattle.records.specs.Grammar.{Reader, bodyOf}
-use Rattle.story.specs.Story.{Kind, plain, temp, divert, tunnel, thread, call, variable, argument, choice, gather, parameter, stitchName, flowStart}
+use Rattle.story.specs.Story.{Kind, plain, temp, divert, tunnel, thread, call, variable, argument, choice, gather, parameter, stitchName, flowStart, Item, Stitch, Flow, Story}
 
 -- a node: also one directly in a branch of kind 8 or 9
 abbrev pub IsNode : Role → Type 0
@@ -107,3 +107,13 @@ pub record Leaves (payload : List ℕ) : Type 0 where
   pub parts : ChoiceOf payload conditions body
   pub records : Kinds kinds body
   pub last : LastLeaves kinds
+
+-- RULE 11 of a record, among those of its body: a choice directly in a branch, its body's last non-Newline missing or not of those kinds
+abbrev pub Undiverted : List Record → Record → Type 0
+Undiverted rs r = VisitedAs choice (r .role) (r .kind) (r .payload) × InBranch rs r × (Leaves (r .payload) → ⊥)
+
+-- the bodies of a story: the root, a flow's own list, a stitch's
+pub data BodyOf (s : Story) : List Item → Type 0 where
+  of-root : BodyOf s (s .root)
+  of-flow : {f : Flow} → f ∈ s .flows → BodyOf s (f .body)
+  of-stitch : {f : Flow} {t : Stitch} → f ∈ s .flows → t ∈ f .stitches → BodyOf s (t .body)
