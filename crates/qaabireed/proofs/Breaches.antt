@@ -1,51 +1,67 @@
 -- The place and the names of a breach that stands have 32 bits: `breach-narrow`. Assumes nothing.
 use mathlib.Core.Path.{_≡_, refl}
-use mathlib.Core.List.{List·Memᴰ·head, List·Memᴰ·not-nil, List·Memᴰ·cases-cons, List·Memᴰ·eq-of-singleton, Memᴰ·append-right, Memᴰ·of-map}
+use mathlib.Core.List.{List·Memᴰ·not-nil, List·Memᴰ·cases-cons, List·Memᴰ·eq-of-singleton, Memᴰ·of-map}
 use mathlib.Core.Logic.{inl, inr, ⊎-elim}
 use Prim.Native.Nat.{ℕ, _≤_, _<_, _^_}
 use native.Mathlib.Omega.{arith}
 use lib.Dec.{lit<}
 use Rattle.names.specs.Words.{_∈_}
-use Rattle.story.specs.Story.{Name, parameter, Item, Story}
+use Rattle.story.specs.Story.{Name, parameter, Item, Stitch, Flow, Story}
 use Rattle.symbols.specs.Numbers.{absent}
 use Rattle.rules.specs.declared.Rule.{Rule}
 use Rattle.rules.specs.declared.Rule.the-variants.{FunctionDivertedTo, TargetNotFound, FlowCalled, NameIsFunction, NameIsGlobal, TempIsParameter, TempIsLabel, ParameterUnmarked, ParameterAlreadyMarked, GatherRepeated, ChoiceUndiverted, FunctionWithStitches, FunctionWithChoice, FunctionWithDivert, VariableForbidden}
 use Rattle.rules.specs.Rules.{number}
-use Rattle.rules.specs.Steps.{Run, nameItem, runs, flowNamed, Breach}
-use Rattle.rules.specs.Meaning.{Ran, ran-root, ran-purity, ran-no-purity, ran-params, ran-flow, ran-name, ran-stitch, NamesAre, Stands}
-use Rattle.rules.proofs.Numbered.{number-in}
-use Rattle.rules.proofs.Ran.{only-steps}
-use Rattle.qaabireed.proofs.Stories.{ItemWithin, StoryWithin}
+use Rattle.rules.specs.Steps.{Run, nameItem, flowNamed, Breach}
+use Rattle.rules.specs.Meaning.{RanInStitch, ran-name, ran-stitch-body, RanInFlow, ran-purity, ran-no-purity, ran-params, ran-flow-body, ran-stitch, ran-flow-gathers, Ran, ran-root, ran-flow, ran-root-gathers, NamesAre, Stands}
+use Rattle.rules.proofs.Placed.{in-split}
+use Rattle.qaabireed.proofs.Stories.{ItemWithin, StitchWithin, FlowWithin, StoryWithin}
 
 -- 1. What a step visits
 
 named-item : {end : ℕ} {i : Item} → i .place < end → i .named < end → ItemWithin end i
 named-item h k = record { place = h; named = omega arith }
 
+-- in a stitch
+in-stitch : {end : ℕ} (f : Flow) (t : Stitch) → StitchWithin end t → {begin n : ℕ} {u : Run} → RanInStitch f t begin n u → (i : Item) → i ∈ u .items → ItemWithin end i
+in-stitch f t w ran-name i j = rw (List·Memᴰ·eq-of-singleton j) (named-item (w .name) (w .name))
+in-stitch f t w (ran-stitch-body m) i j = w .body i j
+
+-- in a flow
+in-flow : {end : ℕ} (f : Flow) → FlowWithin end f → {begin n : ℕ} {u : Run} → RanInFlow f begin n u → (i : Item) → i ∈ u .items → ItemWithin end i
+in-flow f w (ran-purity t) i j = ⊎-elim (λ e. rw e (named-item (w .at) (w .own .name))) (λ n. w .own .body i n) (List·Memᴰ·cases-cons j)
+in-flow f w (ran-no-purity t) i j = absurd (List·Memᴰ·not-nil j)
+in-flow f w ran-params i j =
+    let o = Memᴰ·of-map (λ (n : Name). nameItem parameter (n .at) n) (f .params) j in
+    let h = w .own .params (o .0) (o .1) in
+    rw (← o .2) (named-item h h)
+in-flow f w (ran-flow-body m) i j = w .own .body i j
+in-flow f w (ran-stitch before t after e r) i j = in-stitch f t (w .stitches t (in-split before t after e)) r i j
+in-flow f w ran-flow-gathers i j = w .own .body i j
+
+-- the name of the flow at hand
+stitch-named : (f : Flow) (t : Stitch) {begin n : ℕ} {u : Run} → RanInStitch f t begin n u → flowNamed (u .scope) ≡ f .name .at
+stitch-named f t ran-name = refl
+stitch-named f t (ran-stitch-body m) = refl
+
+flow-named : (f : Flow) {begin n : ℕ} {u : Run} → RanInFlow f begin n u → flowNamed (u .scope) ≡ f .name .at
+flow-named f (ran-purity t) = refl
+flow-named f (ran-no-purity t) = refl
+flow-named f ran-params = refl
+flow-named f (ran-flow-body m) = refl
+flow-named f (ran-stitch before t after e r) = stitch-named f t r
+flow-named f ran-flow-gathers = refl
+
 module _ {end : ℕ} (s : Story) (w : StoryWithin end s) (short : end ≤ 1048576) where
-  visited-within : (u : Run) → Ran s u → (i : Item) → i ∈ u .items → ItemWithin end i
-  visited-within u (ran-root m) i j = w .root i j
-  visited-within u (ran-purity {f = f} k t m) i j =
-      ⊎-elim (λ e. rw e (named-item (w .flows f k .at) (w .flows f k .own .name))) (λ n. w .flows f k .own .body i n) (List·Memᴰ·cases-cons j)
-  visited-within u (ran-no-purity k n m) i j = absurd (List·Memᴰ·not-nil j)
-  visited-within u (ran-params {f = f} k m) i j =
-      let o = Memᴰ·of-map (λ (n : Name). nameItem parameter (n .at) n) (f .params) j in
-      let h = w .flows f k .own .params (o .0) (o .1) in
-      rw (← o .2) (named-item h h)
-  visited-within u (ran-flow {f = f} k m) i j = w .flows f k .own .body i j
-  visited-within u (ran-name {f = f} {t = t} k l m) i j =
-      let h = w .flows f k .stitches t l .name in rw (List·Memᴰ·eq-of-singleton j) (named-item h h)
-  visited-within u (ran-stitch {f = f} {t = t} k l m) i j = w .flows f k .stitches t l .body i j
+  visited-within : {n : ℕ} {u : Run} → Ran s n u → (i : Item) → i ∈ u .items → ItemWithin end i
+  visited-within (ran-root m) i j = w .root i j
+  visited-within (ran-flow before f after e r) i j = in-flow f (w .flows f (in-split before f after e)) r i j
+  visited-within ran-root-gathers i j = w .root i j
 
   -- the place of the name of the flow at hand, or that of none
-  scope-narrow : (u : Run) → Ran s u → flowNamed (u .scope) < 2 ^ 32
-  scope-narrow u (ran-root m) = lit< tt
-  scope-narrow u (ran-purity {f = f} k t m) = omega (arith, w .flows f k .own .name)
-  scope-narrow u (ran-no-purity {f = f} k n m) = omega (arith, w .flows f k .own .name)
-  scope-narrow u (ran-params {f = f} k m) = omega (arith, w .flows f k .own .name)
-  scope-narrow u (ran-flow {f = f} k m) = omega (arith, w .flows f k .own .name)
-  scope-narrow u (ran-name {f = f} k l m) = omega (arith, w .flows f k .own .name)
-  scope-narrow u (ran-stitch {f = f} k l m) = omega (arith, w .flows f k .own .name)
+  scope-narrow : {n : ℕ} {u : Run} → Ran s n u → flowNamed (u .scope) < 2 ^ 32
+  scope-narrow (ran-root m) = lit< tt
+  scope-narrow (ran-flow before f after e r) = omega (arith, flow-named f r, w .flows f (in-split before f after e) .own .name)
+  scope-narrow ran-root-gathers = lit< tt
 
 -- 2. The names of a rule
 
@@ -104,12 +120,9 @@ pub record BreachNarrow (b : Breach) : Type 0 where
 
 pub breach-narrow : {end : ℕ} (s : Story) → StoryWithin end s → end ≤ 1048576 → (b : Breach) → Stands s b → BreachNarrow b
 breach-narrow s w short b h =
-    let u = h .step .it in
-    let ran = only-steps s u (number-in 0 (runs s) (h .step) (h .runs-it)) in
-    let visited : h .item ∈ u .items = rw (h .visits-it) (Memᴰ·append-right (h .earlier) (List·Memᴰ·head refl)) in
-    let i = visited-within s w short u ran (h .item) visited in
+    let i = visited-within s w short (h .runs-it) (h .item) (in-split (h .earlier) (h .item) (h .after) (h .visits-it)) in
     record {
       rule = rule-narrow (b .rule);
       place = omega (arith, h .the-place, i .place);
-      names = names-narrow (scope-narrow s w short u ran) (omega (arith, i .named)) (h .rule) (h .the-names);
+      names = names-narrow (scope-narrow s w short (h .runs-it)) (omega (arith, i .named)) (h .rule) (h .the-names);
     }

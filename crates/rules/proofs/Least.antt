@@ -16,7 +16,8 @@ use Rattle.rules.specs.Placed.{Rising}
 use Rattle.rules.proofs.Means.{broken-means}
 use Rattle.rules.proofs.Names.{names-are, names-only}
 use Rattle.rules.proofs.Table.{rules-of-step, rule-in-step, brackets}
-use Rattle.rules.proofs.Numbered.{number-in, sorted-numbered}
+use Rattle.rules.proofs.Numbered.{sorted-numbered}
+use Rattle.rules.proofs.Ran.{the-steps}
 use Rattle.rules.proofs.Placed.{Ordered}
 use Rattle.names.proofs.Lists.{in-only, of-only, in-each, of-each, sorted-each, sorted-only}
 
@@ -47,11 +48,11 @@ made-of u v r b e f g h = λ i. record { instance = e i; rule = f i; place = g i
 pub listed : (s : Story) (b : Breach) → Stands s b → b ∈ breaches s
 unfolding breaches
 listed s b h =
-    let u : Numbered Run = h .step in
+    let u : Numbered Run = record { no = h .instance; it = h .step } in
     let v : Visit = record { item = h .item; before = whats (h .earlier) } in
     Memᴰ·cast
     (made-of u v (h .rule) b (h .the-instance) (h .the-rule) (h .the-place) (names-only (h .rule) _ _ _ (h .the-names)))
-    (in-each (inRun s) (h .runs-it)
+    (in-each (inRun s) (the-steps s (h .instance) (h .step) .1 (h .runs-it))
     (in-each (inVisit s u) (subst (λ (l : List Item). v ∈ visits [] l) (sym (h .visits-it)) (visit-join [] (h .earlier) (h .item) (h .after)))
     (in-each (λ (r : Rule). only (breaks s (u .it) v r) (breach u v r)) (rule-in-step (u .it .step) (h .rule) (h .of-step))
     (in-only (breaks s (u .it) v (h .rule))
@@ -66,8 +67,9 @@ stands s b m =
     let o = of-only (breaks s (u .0 .it) (v .0) (r .0)) (r .2) in
     let w = visit-split [] (u .0 .it .items) (v .0) (v .1) in
     record {
-      step = u .0;
-      runs-it = u .1;
+      instance = u .0 .no;
+      step = u .0 .it;
+      runs-it = the-steps s (u .0 .no) (u .0 .it) .0 (u .1);
       earlier = w .0;
       item = v .0 .item;
       after = w .1;
@@ -135,7 +137,7 @@ pub in-order : (s : Story) → Ordered s → Sorted Later (breaches s)
 unfolding breaches
 in-order s o =
     sorted-each (λ (a b : Numbered Run). a .no < b .no) Later (inRun s) (numbered 0 (runs s)) (sorted-numbered 0 (runs s))
-    (λ u m. in-run s u (o (u .it) (number-in 0 (runs s) u m)))
+    (λ u m. in-run s u (o (u .no) (u .it) (the-steps s (u .no) (u .it) .0 m)))
     (λ u w b c h i j. inl (omega (arith, numbers s u b i, numbers s w c j)))
 
 -- the first of a list

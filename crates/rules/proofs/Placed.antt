@@ -1,13 +1,16 @@
 -- The places that a step visits rise, from what the reader supplies. Assumes nothing.
-use mathlib.Core.Path.{subst}
-use mathlib.Core.List.{List, [], _∷_, List·Memᴰ·not-nil, Memᴰ·of-map}
-use Prim.Native.Nat.{_<_}
+use mathlib.Core.Path.{_≡_, refl, subst}
+use mathlib.Core.List.{List, [], _∷_, _++_, List·Memᴰ·head, List·Memᴰ·not-nil, Memᴰ·append-right, Memᴰ·of-map}
+use Prim.Native.Nat.{ℕ, _<_}
 use Rattle.names.specs.Words.{_∈_, Sorted}
-use Rattle.story.specs.Story.{Name, parameter, Item, Story}
-use Rattle.rules.specs.Steps.{Run, nameItem, paramItems, runs}
-use Rattle.rules.specs.Meaning.{Ran, ran-root, ran-purity, ran-no-purity, ran-params, ran-flow, ran-name, ran-stitch}
-use Rattle.rules.specs.Placed.{Rising, Placed}
-use Rattle.rules.proofs.Ran.{only-steps}
+use Rattle.story.specs.Story.{Name, parameter, Item, Stitch, Flow, Story}
+use Rattle.rules.specs.Steps.{Run, nameItem, paramItems}
+use Rattle.rules.specs.Meaning.{RanInStitch, ran-name, ran-stitch-body, RanInFlow, ran-purity, ran-no-purity, ran-params, ran-flow-body, ran-stitch, ran-flow-gathers, Ran, ran-root, ran-flow, ran-root-gathers}
+use Rattle.rules.specs.Placed.{Rising, PlacedFlow, Placed}
+
+-- what stands between the two parts of a list is in it
+pub in-split : {A : Type 0} {l : List A} (before : List A) (x : A) (after : List A) → l ≡ before ++ (x ∷ after) → x ∈ l
+in-split before x after e = rw e (Memᴰ·append-right before (List·Memᴰ·head refl))
 
 params-rise : (l : List Name) → Sorted (λ (m n : Name). m .at < n .at) l → Rising (paramItems l)
 params-rise [] q = tt
@@ -17,18 +20,26 @@ params-rise (n ∷ ns) q = (
   params-rise ns (q .1),
 )
 
-step-rises : (s : Story) → Placed s → (u : Run) → Ran s u → Rising (u .items)
-step-rises s p u (ran-root m) = p .root
-step-rises s p u (ran-purity {f = f} i t m) = (p .flows f i .begins, p .flows f i .body)
-step-rises s p u (ran-no-purity i n m) = tt
-step-rises s p u (ran-params {f = f} i m) = params-rise (f .params) (p .flows f i .params)
-step-rises s p u (ran-flow {f = f} i m) = p .flows f i .body
-step-rises s p u (ran-name i j m) = (λ k n. absurd (List·Memᴰ·not-nil n), tt)
-step-rises s p u (ran-stitch {f = f} {t = t} i j m) = p .flows f i .stitches t j
+stitch-rises : (f : Flow) (t : Stitch) → Rising (t .body) → {begin n : ℕ} {u : Run} → RanInStitch f t begin n u → Rising (u .items)
+stitch-rises f t p ran-name = (λ k n. absurd (List·Memᴰ·not-nil n), tt)
+stitch-rises f t p (ran-stitch-body m) = p
+
+flow-rises : (f : Flow) → PlacedFlow f → {begin n : ℕ} {u : Run} → RanInFlow f begin n u → Rising (u .items)
+flow-rises f p (ran-purity t) = (p .begins, p .body)
+flow-rises f p (ran-no-purity t) = tt
+flow-rises f p ran-params = params-rise (f .params) (p .params)
+flow-rises f p (ran-flow-body m) = p .body
+flow-rises f p (ran-stitch before t after e r) = stitch-rises f t (p .stitches t (in-split before t after e)) r
+flow-rises f p ran-flow-gathers = p .body
+
+step-rises : (s : Story) → Placed s → {n : ℕ} {u : Run} → Ran s n u → Rising (u .items)
+step-rises s p (ran-root m) = p .root
+step-rises s p (ran-flow before f after e r) = flow-rises f (p .flows f (in-split before f after e)) r
+step-rises s p ran-root-gathers = p .root
 
 -- in each step as run the visited places rise
 abbrev pub Ordered : Story → Type 0
-Ordered s = (u : Run) → u ∈ runs s → Rising (u .items)
+Ordered s = (n : ℕ) (u : Run) → Ran s n u → Rising (u .items)
 
 pub ordered : (s : Story) → Placed s → Ordered s
-ordered s p u m = step-rises s p u (only-steps s u m)
+ordered s p n u r = step-rises s p r

@@ -3,9 +3,10 @@
 use mathlib.Core.Path.{_≡_}
 use mathlib.Core.List.{List, [], _∷_, _++_, map}
 use mathlib.Core.Logic.{_⊎_}
-use Prim.Native.Nat.{ℕ, _<_}
+use Prim.Native.Nat.{ℕ, _+_, _-_, _*_, _<_}
 use lib.Dec.{T}
-use Rattle.names.specs.Words.{Bytes, each, _∈_}
+use lib.ListN.{length}
+use Rattle.names.specs.Words.{Bytes, _∈_}
 use Rattle.names.specs.Reserved.{END, DONE, arrow, back, builtins}
 use Rattle.story.specs.Story.{Name, Kind, temp, divert, tunnel, thread, call, variable, argument, choice, gather, parameter, stitchName, flowStart, code, What, Item, Stitch, Flow, Story, words, whats}
 use Rattle.symbols.specs.Spelled.{LabelIn, Spelled}
@@ -13,7 +14,7 @@ use Rattle.symbols.specs.Numbers.{absent}
 use Rattle.rules.specs.declared.Rule.{Rule}
 use Rattle.rules.specs.declared.Rule.the-variants.{FunctionDivertedTo, TargetNotFound, FlowCalled, NameIsFunction, NameIsGlobal, TempIsParameter, TempIsLabel, ParameterUnmarked, ParameterAlreadyMarked, GatherRepeated, ChoiceUndiverted, FunctionWithStitches, FunctionWithChoice, FunctionWithDivert, VariableForbidden}
 use Rattle.rules.specs.Rules.{number, Scope, root, knot, stitch}
-use Rattle.rules.specs.Steps.{Step, s1, s2, s3, s4, s5, s6, s7, s8, s9, s10, s11, s12, s13, s14, s15, s16, s17, s18, s19, s20, Run, run, nameItem, Numbered, numbered, runs, flowNamed, Breach}
+use Rattle.rules.specs.Steps.{Step, s1, s2, s3, s4, s5, s6, s7, s8, s9, s10, s11, s12, s13, s14, s15, s16, s17, s18, s19, s20, stepNumber, Run, run, nameItem, flowNamed, Breach}
 
 -- THE RULES AS STATEMENTS
 
@@ -126,27 +127,44 @@ bracketed s18 = 10 ∷ []
 bracketed s19 = 10 ∷ []
 bracketed s20 = 10 ∷ []
 
--- the steps by root, flow and stitch, each with what it visits; step 5 visits nothing in a flow that isn't a function
-pub data Ran (s : Story) : Run → Type 0 where
-  ran-root : {st : Step} → st ∈ (s1 ∷ s2 ∷ s3 ∷ s4 ∷ s20 ∷ []) → Ran s (run root (s .root) st)
-  ran-purity : {f : Flow} {st : Step} → f ∈ s .flows → T (f .function) → st ∈ (s5 ∷ []) → Ran s (run (knot f) (nameItem flowStart (f .at) (f .name) ∷ f .body) st)
-  ran-no-purity : {f : Flow} {st : Step} → f ∈ s .flows → (T (f .function) → ⊥) → st ∈ (s5 ∷ []) → Ran s (run (knot f) [] st)
-  ran-params : {f : Flow} {st : Step} → f ∈ s .flows → st ∈ (s6 ∷ []) → Ran s (run (knot f) (map (λ (n : Name). nameItem parameter (n .at) n) (f .params)) st)
-  ran-flow : {f : Flow} {st : Step} → f ∈ s .flows → st ∈ (s7 ∷ s8 ∷ s9 ∷ s10 ∷ s11 ∷ s19 ∷ []) → Ran s (run (knot f) (f .body) st)
-  ran-name : {f : Flow} {t : Stitch} {st : Step} → f ∈ s .flows → t ∈ f .stitches → st ∈ (s12 ∷ []) → Ran s (run (stitch f t) (nameItem stitchName (t .name .at) (t .name) ∷ []) st)
-  ran-stitch : {f : Flow} {t : Stitch} {st : Step} → f ∈ s .flows → t ∈ f .stitches → st ∈ (s13 ∷ s14 ∷ s15 ∷ s16 ∷ s17 ∷ s18 ∷ []) → Ran s (run (stitch f t) (t .body) st)
+-- how many steps are run for a flow: 5 to 11, 12 to 18 for each stitch, its 19
+abbrev pub flowSize : Flow → ℕ
+flowSize f = 8 + 7 * length (f .stitches)
 
--- the numbers of the steps as run for a stitch: 12 to 18
-abbrev pub stitchNumbers : Stitch → List ℕ
-stitchNumbers t = 12 ∷ 13 ∷ 14 ∷ 15 ∷ 16 ∷ 17 ∷ 18 ∷ []
+-- how many for flows, one after the other
+abbrev pub flowsSize : List Flow → ℕ
+flowsSize [] = 0
+flowsSize (f ∷ fs) = flowSize f + flowsSize fs
 
--- for a flow: 5 to 11, 12 to 18 for each stitch, its 19
-abbrev pub flowNumbers : Flow → List ℕ
-flowNumbers f = (5 ∷ 6 ∷ 7 ∷ 8 ∷ 9 ∷ 10 ∷ 11 ∷ []) ++ each stitchNumbers (f .stitches) ++ (19 ∷ [])
+-- the number of a flow's first step, after the root's 1 to 4 and those of the flows before it
+abbrev pub flowBegin : List Flow → ℕ
+flowBegin before = 4 + flowsSize before
 
--- for a story: the root's 1 to 4, those of each flow, the root's 20
-abbrev pub runNumbers : Story → List ℕ
-runNumbers s = (1 ∷ 2 ∷ 3 ∷ 4 ∷ []) ++ each flowNumbers (s .flows) ++ (20 ∷ [])
+-- the number of a stitch's first step, after its flow's 5 to 11 and those of the stitches before it
+abbrev pub stitchBegin : ℕ → List Stitch → ℕ
+stitchBegin begin before = begin + 7 + 7 * length before
+
+-- a stitch's 12 to 18, from the number `begin` on
+pub data RanInStitch (f : Flow) (t : Stitch) (begin : ℕ) : ℕ → Run → Type 0 where
+  ran-name : RanInStitch f t begin begin (run (stitch f t) (nameItem stitchName (t .name .at) (t .name) ∷ []) s12)
+  ran-stitch-body : {st : Step} → st ∈ (s13 ∷ s14 ∷ s15 ∷ s16 ∷ s17 ∷ s18 ∷ []) → RanInStitch f t begin (begin + (stepNumber st - 12)) (run (stitch f t) (t .body) st)
+
+-- a flow's 5 to 11, from the number `begin` on, those of each stitch, its 19; step 5 visits nothing in a flow that isn't a function
+pub data RanInFlow (f : Flow) (begin : ℕ) : ℕ → Run → Type 0 where
+  ran-purity : T (f .function) → RanInFlow f begin begin (run (knot f) (nameItem flowStart (f .at) (f .name) ∷ f .body) s5)
+  ran-no-purity : (T (f .function) → ⊥) → RanInFlow f begin begin (run (knot f) [] s5)
+  ran-params : RanInFlow f begin (begin + 1) (run (knot f) (map (λ (n : Name). nameItem parameter (n .at) n) (f .params)) s6)
+  ran-flow-body : {st : Step} → st ∈ (s7 ∷ s8 ∷ s9 ∷ s10 ∷ s11 ∷ []) → RanInFlow f begin (begin + (stepNumber st - 5)) (run (knot f) (f .body) st)
+  ran-stitch : (before : List Stitch) (t : Stitch) (after : List Stitch) {n : ℕ} {u : Run} → f .stitches ≡ before ++ (t ∷ after)
+      → RanInStitch f t (stitchBegin begin before) n u → RanInFlow f begin n u
+  ran-flow-gathers : RanInFlow f begin (stitchBegin begin (f .stitches)) (run (knot f) (f .body) s19)
+
+-- THE STEPS AS RUN, with what each visits and its number from 0 on: the root's 1 to 4, those of each flow, the root's 20
+pub data Ran (s : Story) : ℕ → Run → Type 0 where
+  ran-root : {st : Step} → st ∈ (s1 ∷ s2 ∷ s3 ∷ s4 ∷ []) → Ran s (stepNumber st - 1) (run root (s .root) st)
+  ran-flow : (before : List Flow) (f : Flow) (after : List Flow) {n : ℕ} {u : Run} → s .flows ≡ before ++ (f ∷ after)
+      → RanInFlow f (flowBegin before) n u → Ran s n u
+  ran-root-gathers : Ran s (flowBegin (s .flows)) (run root (s .root) s20)
 
 -- THE NAMES AS STATEMENTS: 14 has function and target, 11 none, the others one, which in 12 and 13 is the function
 pub record NamesAre (rule : ℕ) (function own : ℕ) (names : ℕ × ℕ) : Type 0 where
@@ -158,16 +176,17 @@ pub record NamesAre (rule : ℕ) (function own : ℕ) (names : ℕ × ℕ) : Typ
 -- A BREACH STANDS: a step as run visits the item at its place, those of the same body before it are `earlier`, its rule is
 -- bracketed there and broken there, and its names are the rule's.
 pub record Stands (s : Story) (b : Breach) : Type 0 where
-  pub step : Numbered Run
-  pub runs-it : step ∈ numbered 0 (runs s)
+  pub instance : ℕ
+  pub step : Run
+  pub runs-it : Ran s instance step
   pub earlier : List Item
   pub item : Item
   pub after : List Item
-  pub visits-it : step .it .items ≡ earlier ++ (item ∷ after)
+  pub visits-it : step .items ≡ earlier ++ (item ∷ after)
   pub rule : Rule
-  pub of-step : number rule ∈ bracketed (step .it .step)
-  pub is-broken : Broken s (step .it .scope) (whats earlier) rule (item .what)
-  pub the-instance : b .instance ≡ step .no
+  pub of-step : number rule ∈ bracketed (step .step)
+  pub is-broken : Broken s (step .scope) (whats earlier) rule (item .what)
+  pub the-instance : b .instance ≡ instance
   pub the-rule : b .rule ≡ rule
   pub the-place : b .place ≡ item .place
-  pub the-names : NamesAre (number rule) (flowNamed (step .it .scope)) (item .named) (b .names)
+  pub the-names : NamesAre (number rule) (flowNamed (step .scope)) (item .named) (b .names)
