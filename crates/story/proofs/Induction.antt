@@ -1,4 +1,4 @@
--- What holds of every reading of nodes: a statement on traces between two places that each way of the grammar to build a reading keeps. Assumes nothing.
+-- What holds of every reading of nodes and of flows: a statement on traces between two places that each way of the grammar to build a reading keeps. Assumes nothing.
 use mathlib.Core.Path.{_≡_, refl}
 use mathlib.Core.List.{List, [], _∷_}
 use mathlib.Core.Bool.{Bool, true, false}
@@ -27,6 +27,7 @@ use Rattle.fields.specs.Kinds.{kindOf}
 use Rattle.fields.proofs.Laws.{head-fits, list-fits, name-fits, off-fits, on-fits}
 use Rattle.records.specs.Trace.{Trace, done, refuse, emit, andThen, shift}
 use Rattle.records.specs.Grammar.{Reading, Reader, frontAt, front, ending, repeatN, repeat, records, exact, listedAt, listed, namedAt, named, flaggedAt, flagged, moded, last, orElse, arms, options, tested, branch, bodyOf, whole, tooDeep, recordOf, nodes}
+use Rattle.story.specs.Flows.{namesThen, counted, pieceAt, piece, titled, stitch, flow, flows, stitches}
 
 -- what a statement P on traces whose places lie between two places has to keep
 pub record Kept (P : ℕ → ℕ → Trace → Type 0) : Type 0 where
@@ -94,16 +95,25 @@ module _ (P : ℕ → ℕ → Trace → Type 0) (kept : Kept P) where
   exact-holds zero f g s = ending-holds s
   exact-holds (suc n) f g s = front-holds f (exact n f) g (exact-holds n f g) s
 
-  listed-holds : (f : Reader) (k : Reading) → HoldsRecord f → Holds k → Holds (listed f k)
-  unfolding listedAt
-  listed-holds f k g h s = by-span (listOf s) refl
+  -- a length and so many bytes by g, then what follows them by k
+  piece-holds : (g k : Reading) → Holds g → Holds k → Holds (piece g k)
+  unfolding pieceAt
+  piece-holds g k inside h s = by-span (listOf s) refl
     where
-      by-span : (x : Span) → listOf s ≡ x → P 0 (length s) (listedAt x f k s)
+      by-span : (x : Span) → listOf s ≡ x → P 0 (length s) (pieceAt x g k s)
       by-span (span.Bytes n) e =
           let fits : 4 + n ≤ length s = list-fits s n refl e in
-          kept .both (shift 4 (records f (take n (drop 4 s)))) (shift (4 + n) (k (drop (4 + n) s))) (omega arith) fits
-          (part-holds 4 n s (records f) (records-holds f g) fits) (rest-holds (4 + n) s k h fits)
+          kept .both (shift 4 (g (take n (drop 4 s)))) (shift (4 + n) (k (drop (4 + n) s))) (omega arith) fits
+          (part-holds 4 n s g inside fits) (rest-holds (4 + n) s k h fits)
       by-span span.Cut e = kept .refused 0 (length s) _
+
+  listed-holds : (f : Reader) (k : Reading) → HoldsRecord f → Holds k → Holds (listed f k)
+  unfolding listedAt pieceAt
+  listed-holds f k g h s = rw (as-piece (listOf s)) (piece-holds (records f) k (records-holds f g) h s)
+    where
+      as-piece : (x : Span) → listedAt x f k s ≡ pieceAt x (records f) k s
+      as-piece (span.Bytes n) = refl
+      as-piece span.Cut = refl
 
   named-holds : (k : Reading) → Holds k → Holds (named k)
   unfolding namedAt
@@ -178,3 +188,29 @@ module _ (P : ℕ → ℕ → Trace → Type 0) (kept : Kept P) where
   pub nodes-hold : (s : List ℕ) → P 0 (length s) (nodes s)
   unfolding nodes
   nodes-hold s = records-holds (recordOf 64 Node) (record-holds 64 Node) s
+
+  -- and of the reading of any flows
+  names-then-hold : (n : ℕ) (k : Reading) → Holds k → Holds (namesThen n k)
+  unfolding namesThen
+  names-then-hold zero k h s = h s
+  names-then-hold (suc n) k h s = named-holds (namesThen n k) (names-then-hold n k h) s
+
+  counted-holds : (k : Reading) → Holds k → Holds (counted k)
+  unfolding counted
+  counted-holds k h [] = kept .refused 0 0 _
+  counted-holds k h (x ∷ s) = after-holds 1 (x ∷ s) (namesThen x k) (names-then-hold x k h) (omega arith)
+
+  titled-holds : (k : Reading) → Holds k → Holds (titled k)
+  unfolding titled
+  titled-holds k h s =
+      let list = listed-holds (recordOf 64 Node) k (record-holds 64 Node) h in
+      named-holds (counted (counted (listed (recordOf 64 Node) k))) (counted-holds (counted (listed (recordOf 64 Node) k)) (counted-holds (listed (recordOf 64 Node) k) list)) s
+
+  pieces-hold : (g : Reading) → Holds g → Holds (repeat (piece g))
+  pieces-hold g h = repeat-holds (piece g) (λ k rest. piece-holds g k h rest)
+
+  pub flows-hold : (s : List ℕ) → P 0 (length s) (flows s)
+  unfolding flows flow stitch
+  flows-hold s =
+      let own = titled-holds stitches (pieces-hold stitch (λ t. titled-holds ending ending-holds t)) in
+      pieces-hold flow (λ t. flagged-holds (titled stitches) (titled stitches) own own t) s

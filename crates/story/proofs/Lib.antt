@@ -14,3 +14,7 @@ pub mod WellInside
 pub mod RecordNames
 pub mod Named
 pub mod Owned
+pub mod RecordsMet
+pub mod JoinedBytes
+pub mod Whole
+pub mod WholeExample

@@ -48,7 +48,7 @@ module _ (s : List ℕ) where
 -- 2. Pieces
 
 module _ (g : Reading) where
-  piece-local : Local (piece g)
+  pub piece-local : Local (piece g)
   unfolding Local pieceAt
   piece-local s j k e = by-span (listOf s)
     where

@@ -55,7 +55,7 @@ counted-rise at s = names-rise (getD s 0 0) (at + 1) (drop 1 s)
 
 -- 2. Items
 
-items-sorted : (rs : List Record) → Sorted (λ (x y : Record). x .place < y .place) rs → Sorted ItemBefore (map itemOf rs)
+pub items-sorted : (rs : List Record) → Sorted (λ (x y : Record). x .place < y .place) rs → Sorted ItemBefore (map itemOf rs)
 unfolding itemOf itemAs
 items-sorted [] h = tt
 items-sorted (r ∷ rs) h = (later, items-sorted rs (h .1))

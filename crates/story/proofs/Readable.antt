@@ -1,6 +1,6 @@
 -- The parts of a readable file are readable: its sections, each name, each flow, each stitch, each list of nodes. Assumes nothing.
 use mathlib.Core.Path.{_≡_, refl, sym, _∙_, ap}
-use mathlib.Core.List.{List}
+use mathlib.Core.List.{List, [], _∷_}
 use Prim.Native.Nat.{ℕ, _+_, _≤_, _<_}
 use native.Mathlib.Omega.{arith}
 use lib.ListN.{length, take, drop}
@@ -94,6 +94,14 @@ module _ (g : Reading) (t : List ℕ) (good : ends (repeat (piece g) t) ≡ well
 
   pub piece-never-cut : {r : Span} → 0 < length t → r ≡ listOf t → r ≡ span.Cut → ⊥
   piece-never-cut h p q = let e = pieces-cut g t h p q in let z : _≡_ {A = ℕ} 0 1 = cc in omega arith
+
+  -- where there is no further piece, nothing is left
+  pub piece-none-left : {r : Span} → r ≡ listOf t → r ≡ span.Cut → length t ≤ 0
+  piece-none-left p q = by-bytes t (λ h. piece-never-cut h p q)
+    where
+      by-bytes : (s : List ℕ) → (0 < length s → ⊥) → length s ≤ 0
+      by-bytes [] never = omega arith
+      by-bytes (x ∷ s) never = absurd (never (omega arith))
 
 -- flows are pieces
 pub flows-pieces : (t : List ℕ) → ends (flows t) ≡ ends (repeat (piece flow) t)

@@ -75,7 +75,8 @@ record-bears b s good r m = met-good b (nodes s) (nodes-hold Sound sound s good)
 
 -- 2. Five bytes apart
 
-Spaced : ℕ → ℕ → Trace → Type 0
+-- each record of the trace stands between the two places, a head or more after the one before it
+pub Spaced : ℕ → ℕ → Trace → Type 0
 Spaced lo hi done = Unit {0}
 Spaced lo hi (refuse r) = Unit {0}
 Spaced lo hi (emit role kind p bs t) = ((lo ≤ p) × (p + 5 ≤ hi)) × Spaced (p + 5) hi t
@@ -99,7 +100,7 @@ spaced-shift a lo hi (refuse r) h = tt
 spaced-shift a lo hi (emit role kind p bs t) h =
     (omega (arith, h .0), spaced-wider (shift a t) (omega arith) (omega arith) (spaced-shift a (p + 5) hi t (h .1)))
 
-spaced : Kept Spaced
+pub spaced : Kept Spaced
 unfolding Spaced
 spaced = record {
   wider = spaced-wider;
@@ -126,7 +127,7 @@ met-from lo hi b (emit role kind p bs t) h r m = by-cases (met-from (p + 5) hi b
     by-cases later (inl e) = omega (arith, h .0, ap (λ (x : Record). x .place) e)
     by-cases later (inr i) = omega (arith, h .0, later i)
 
-met-apart : (lo hi b : ℕ) (t : Trace) → Spaced lo hi t → Sorted Apart (met b t)
+pub met-apart : (lo hi b : ℕ) (t : Trace) → Spaced lo hi t → Sorted Apart (met b t)
 unfolding Spaced met
 met-apart lo hi b done h = tt
 met-apart lo hi b (refuse x) h = tt

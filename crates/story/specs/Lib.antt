@@ -5,3 +5,4 @@ pub mod Headings
 pub mod Flows
 pub mod Endings
 pub mod File
+pub mod Whole
