@@ -29,12 +29,12 @@ use Rattle.fields.specs.Bytes.{pick, headOf, listOf, nameOf, flagOf}
 use Rattle.fields.specs.Kinds.{exprKinds, exprKind, condKinds, condKind, nodeKinds, nodeKind, kindOf}
 use Rattle.names.specs.Words.{_∈_}
 use Rattle.names.proofs.Means.{Means}
-use Rattle.records.specs.Trace.{Trace, done, refuse, emit, andThen, shift, Record, met, Ending, well, refused, ends}
+use Rattle.records.specs.Trace.{Trace, done, refuse, emit, andThen, shift, Record, met, well, ends}
 use Rattle.records.specs.Grammar.{Reading, Reader, frontAt, front, ending, repeatN, repeat, records, exact, listedAt, listed, namedAt, named, flaggedAt, flagged, moded, last, orElse, arms, options, tested, branch, bodyOf, whole, tooDeep, recordOf, nodes}
 use Rattle.story.specs.Items.{inBranch}
 use Rattle.story.proofs.Endings.{ends-then, ends-shift, first-well, second-well, thenEnds}
 use Rattle.bodies.proofs.Tables.{missed}
-use Rattle.rules.specs.Sorts.{IsNode, alone, DirectlyIn, InBranch}
+use Rattle.rules.specs.Sorts.{IsNode, alone, DirectlyIn, Branching, InBranch}
 
 -- 1. Two readings of the same bytes that differ in how they read the records directly there
 
@@ -357,11 +357,11 @@ hands-branch body.Choice (inl h) = let z : _≡_ {A = ℕ} 0 1 = cc in absurd (o
 hands-branch body.Choice (inr h) = let z : _≡_ {A = ℕ} 0 1 = cc in absurd (omega arith)
 
 -- by the tables of kinds
-node-hands : (kind : ℕ) → handsBranch (getD nodeKinds kind None) ≡ true → (kind ≡ 8) ⊎ (kind ≡ 9)
+node-hands : (kind : ℕ) → handsBranch (getD nodeKinds kind None) ≡ true → Branching kind
 unfolding handsBranch inBranch
 node-hands kind h = by-tests (eqb kind 8) (eqb kind 9) refl refl
   where
-    by-tests : (i j : Bool) → eqb kind 8 ≡ i → eqb kind 9 ≡ j → (kind ≡ 8) ⊎ (kind ≡ 9)
+    by-tests : (i j : Bool) → eqb kind 8 ≡ i → eqb kind 9 ≡ j → Branching kind
     by-tests true j p q = inl (eqb-true kind 8 p)
     by-tests false true p q = inr (eqb-true kind 9 q)
     by-tests false false p q =
@@ -382,7 +382,7 @@ unvisited-hands : (kind : ℕ) → handsBranch (getD (exprKinds Unvisited) kind 
 unfolding handsBranch inBranch
 unvisited-hands kind = sym (List·getD-map handsBranch (exprKinds Unvisited) kind None) ∙ missed false 7 [] kind tt
 
-branch-kinds : (role : Role) (kind : ℕ) → handsBranch (kindOf role kind) ≡ true → IsNode role × ((kind ≡ 8) ⊎ (kind ≡ 9))
+branch-kinds : (role : Role) (kind : ℕ) → handsBranch (kindOf role kind) ≡ true → IsNode role × Branching kind
 unfolding kindOf nodeKind condKind exprKind
 branch-kinds Node kind h = (inl refl, node-hands kind h)
 branch-kinds Branch kind h = (inr refl, node-hands kind h)
@@ -392,7 +392,7 @@ branch-kinds Argument kind h = let e = sym h ∙ unvisited-hands kind in let z :
 branch-kinds Unvisited kind h = let e = sym h ∙ unvisited-hands kind in let z : _≡_ {A = ℕ} 0 1 = cc in absurd (omega arith)
 
 -- and to their nodes they hand no other
-branch-nodes : (role : Role) (kind : ℕ) (c : Body) (x : Role) → IsNode role → (kind ≡ 8) ⊎ (kind ≡ 9) → kindOf role kind ≡ Known c → HandsOut c x → IsNode x → x ≡ Branch
+branch-nodes : (role : Role) (kind : ℕ) (c : Body) (x : Role) → IsNode role → Branching kind → kindOf role kind ≡ Known c → HandsOut c x → IsNode x → x ≡ Branch
 unfolding kindOf nodeKind
 branch-nodes role kind c x n k known h i = by-role n k
   where
@@ -412,7 +412,7 @@ branch-nodes role kind c x n k known h i = by-role n k
         by-hands (inl p) (inr q) = q
         by-hands (inr p) q = p
 
-    by-role : IsNode role → (kind ≡ 8) ⊎ (kind ≡ 9) → x ≡ Branch
+    by-role : IsNode role → Branching kind → x ≡ Branch
     by-role (inl e) (inl k) = of-conditional (let f = rw (e, k) at known in cc)
     by-role (inl e) (inr k) = of-switch (let f = rw (e, k) at known in cc)
     by-role (inr e) (inl k) = of-conditional (let f = rw (e, k) at known in cc)
@@ -438,7 +438,7 @@ in-branch b s good r m = record {
   to = λ t. by-owner (branch-role (r .role) .to t) (met-directly b s good r m);
   from = λ h.
       branch-role (r .role) .from
-      (branch-nodes (h .owner .role) (h .owner .kind) (h .inside .body) (r .role) (h .owner-node) (h .of-kind) (h .inside .of-kind)
+      (branch-nodes (h .owner .role) (h .owner .kind) (h .inside .body) (r .role) (h .owner-node) (h .branching) (h .inside .of-kind)
       (directly-role (h .inside .body) (h .owner .place + 5) (h .owner .payload) r (h .inside .met-there)) (h .node));
 }
   where
@@ -449,4 +449,4 @@ in-branch b s good r m = record {
         let d = w .2 in
         let hands = hands-branch (d .body) (rw e at (directly-role (d .body) (q .place + 5) (q .payload) r (d .met-there))) in
         let k = branch-kinds (q .role) (q .kind) (rw (d .of-kind) hands) in
-        record { node = inr e; owner = q; there = w .1; owner-node = k .0; of-kind = k .1; inside = d }
+        record { node = inr e; owner = q; there = w .1; owner-node = k .0; branching = k .1; inside = d }

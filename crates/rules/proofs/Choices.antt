@@ -11,8 +11,7 @@ use lib.Seq.{drop-drop, getD-drop}
 use borrow.Author.Tests.{eqb-true}
 use Rattle.fields.specs.declared.Refusal.the-variants.{Short, Unknown}
 use Rattle.fields.specs.declared.Role.{Role}
-use Rattle.fields.specs.declared.Role.the-variants.{Node, Branch, Cond, Visited, Argument, Unvisited}
-use Rattle.fields.specs.declared.Body.{Body}
+use Rattle.fields.specs.declared.Role.the-variants.{Node, Cond}
 use Rattle.fields.specs.declared.Body.the-variants as body
 use Rattle.fields.specs.declared.Kinded.the-variants.{Known}
 use Rattle.fields.specs.declared.Head.{Head}
@@ -29,20 +28,20 @@ use Rattle.fields.proofs.Laws.{head-fits}
 use Rattle.names.specs.Words.{_∈_}
 use Rattle.names.proofs.Any.{any-in, any-of}
 use Rattle.names.proofs.Means.{Means}
-use Rattle.records.specs.Trace.{Trace, andThen, shift, Record, met, well, refused, ends}
-use Rattle.records.specs.Grammar.{Reading, Reader, frontAt, front, ending, repeat, records, listedAt, listed, namedAt, named, flaggedAt, flagged, last, options, bodyOf, recordOf, nodes}
-use Rattle.records.proofs.Traces.{shift-then, shift-shift, then-done, shift-done}
+use Rattle.records.specs.Trace.{Trace, andThen, shift, Record, met, well, ends}
+use Rattle.records.specs.Grammar.{Reading, Reader, frontAt, front, ending, records, listedAt, listed, namedAt, flaggedAt, last, options, bodyOf, recordOf, nodes}
+use Rattle.records.proofs.Traces.{shift-shift, then-done, shift-done}
 use Rattle.records.proofs.Readings.{front-local, repeat-step}
 use Rattle.story.specs.Story.{Kind, plain, temp, divert, tunnel, thread, call, variable, argument, choice, gather, parameter, stitchName, flowStart, code, What, Item, Story}
-use Rattle.story.specs.Items.{sortOf, inBranch, leaving, endingAt, endingN, endWithDivert, spanned, past, unlabelled, choiceBody, leaves, whatOf, itemAs, itemOf}
-use Rattle.story.proofs.Endings.{ends-then, ends-shift, first-well, second-well}
+use Rattle.story.specs.Items.{sortOf, leaving, endingAt, endingN, endWithDivert, spanned, past, unlabelled, choiceBody, leaves, whatOf, itemAs, itemOf}
+use Rattle.story.proofs.Endings.{ends-then, ends-shift, second-well}
 use Rattle.story.proofs.Unfolding.{name-count}
-use Rattle.story.proofs.WellInside.{Bears, record-bears}
+use Rattle.story.proofs.WellInside.{record-bears}
 use Rattle.rules.specs.declared.Rule.the-variants.{ChoiceUndiverted}
 use Rattle.rules.specs.Rules.{Scope}
 use Rattle.rules.specs.Meaning.{Is, Broken}
 use Rattle.rules.specs.Reader.{Readable, storyOf}
-use Rattle.rules.specs.Sorts.{VisitedAs, InBranch, NameThen, ListThen, LabelThen, ChoiceOf, Kinds, LastLeaves, Leaves, Undiverted, BodyOf}
+use Rattle.rules.specs.Sorts.{VisitedAs, InBranch, ListThen, LabelThen, ChoiceOf, Kinds, leavingKinds, LastLeaves, Leaves, Undiverted, BodyOf}
 use Rattle.rules.proofs.Sorts.{visited-sort, sort-visited}
 use Rattle.rules.proofs.Branches.{in-branch}
 use Rattle.rules.proofs.FileBodies.{file-bodies}
@@ -58,9 +57,9 @@ lastLeaves sofar (k ∷ ks) = lastLeaves (pick (eqb k 1) sofar (leaving k)) ks
 abbrev Newlines : List ℕ → Type 0
 Newlines ks = (k : ℕ) → k ∈ ks → k ≡ 1
 
-kind-leaves : (k : ℕ) → Means (leaving k) (k ∈ (3 ∷ 6 ∷ 7 ∷ 11 ∷ 12 ∷ []))
+kind-leaves : (k : ℕ) → Means (leaving k) (k ∈ leavingKinds)
 kind-leaves k = record {
-  to = λ t. let r = any-of (eqb k) (3 ∷ 6 ∷ 7 ∷ 11 ∷ 12 ∷ []) t in Memᴰ·cast (eqb→eq k (r .0) (r .2)) (r .1);
+  to = λ t. let r = any-of (eqb k) leavingKinds t in Memᴰ·cast (eqb→eq k (r .0) (r .2)) (r .1);
   from = λ m. any-in (eqb k) m (eqb-refl k);
 }
 

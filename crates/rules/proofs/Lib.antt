@@ -17,6 +17,7 @@ pub mod Reader
 pub mod Branches
 pub mod FileBodies
 pub mod Choices
+pub mod ChoiceExamples
 pub mod FileDemand
 pub mod Examples
 pub mod FileExamples

@@ -54,13 +54,17 @@ pub record DirectlyIn (q r : Record) : Type 0 where
   pub of-kind : kindOf (q .role) (q .kind) ≡ Known body
   pub met-there : r ∈ met (q .place + 5) (bodyOf body alone (q .payload))
 
+-- Conditional and SwitchConditional
+abbrev pub Branching : ℕ → Type 0
+Branching kind = (kind ≡ 8) ⊎ (kind ≡ 9)
+
 -- among these records: a node directly in a node of kind 8 or 9, so in a branch, since what stands before the branches is no node
 pub record InBranch (rs : List Record) (r : Record) : Type 0 where
   pub node : IsNode (r .role)
   pub owner : Record
   pub there : owner ∈ rs
   pub owner-node : IsNode (owner .role)
-  pub of-kind : (owner .kind ≡ 8) ⊎ (owner .kind ≡ 9)
+  pub branching : Branching (owner .kind)
   pub inside : DirectlyIn owner r
 
 -- RULE 11: the body's last non-Newline is there, and of kinds 3, 6, 7, 11, 12
@@ -90,13 +94,17 @@ abbrev pub Kinds : List ℕ → List ℕ → Type 0
 Kinds [] s = s ≡ []
 Kinds (kind ∷ kinds) s = (n : ℕ) × (headOf s ≡ head.Piece kind n) × Kinds kinds (drop (5 + n) s)
 
--- the last kind that is no Newline's is there, and is 3, 6, 7, 11 or 12
+-- Divert, TunnelReturn, TunnelOnwardsWithTarget, ReturnBool and ReturnExpr
+abbrev pub leavingKinds : List ℕ
+leavingKinds = 3 ∷ 6 ∷ 7 ∷ 11 ∷ 12 ∷ []
+
+-- the last kind that is no Newline's is there, and is one of these
 pub record LastLeaves (kinds : List ℕ) : Type 0 where
   pub before : List ℕ
   pub kind : ℕ
   pub after : List ℕ
   pub all : kinds ≡ before ++ (kind ∷ after)
-  pub leaving : kind ∈ (3 ∷ 6 ∷ 7 ∷ 11 ∷ 12 ∷ [])
+  pub leaving : kind ∈ leavingKinds
   pub newlines : (k : ℕ) → k ∈ after → k ≡ 1
 
 -- the payload is a choice's, whose body's last non-Newline leaves
