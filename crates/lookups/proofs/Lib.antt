@@ -2,3 +2,4 @@
 pub mod Meaning
 pub mod Promise
 pub mod Answers
+pub mod Impostors
