@@ -1,5 +1,5 @@
--- `tables::functions::put_functions` meets its contract. The loop's invariant: the flows from `at` on can be read, and the table has
--- those before. Assumes nothing.
+-- `tables::functions::put_functions` meets its contract. The loop's invariant: the table has the flows before `at`, and those from it
+-- on can be read. Assumes nothing.
 use mathlib.Core.Path.{_≡_, refl}
 use Prim.Native.Nat.{_≤_, _-_}
 use native.Mathlib.Omega.{arith}
@@ -17,8 +17,8 @@ use Rattle.tables.proofs.functions.put_functions.Tie as tie
 abbrev Inv-loop : tie.InvT-loop
 Inv-loop file c table₀ at₀ table at =
     ((at ≤ c .end) × (length table ≡ length table₀))
-    × (ends (flows (part at (c .end) file)) ≡ well)
     × Filling file (flowsIn (c .flows) (part (c .flows) (c .end) file)) (flowsIn at (part at (c .end) file)) table
+    × (ends (flows (part at (c .end) file)) ≡ well)
 
 abbrev μ-loop : tie.MeasureT-loop
 μ-loop file c table₀ at₀ table at = c .end - at
@@ -30,7 +30,7 @@ loop-holds : tie.Need-loop-holds Inv-loop μ-loop
 loop-holds c =
     let start = c .before .before .before .before .before .before .before in
     let r = readable (start .args .file .now) (start .args .c) refl (start .pre) in
-    ((r .order .flows, refl), r .flows, filling-start (omega arith) (c .before .before .before .clear .ensures))
+    ((r .order .flows, refl), filling-start (omega arith) (c .before .before .before .clear .ensures), r .flows)
 
 flow-view-requires : tie.Need-flow-view-requires Inv-loop μ-loop
 flow-view-requires c κs =
@@ -41,7 +41,7 @@ returns-2 : tie.Need-returns-2 Inv-loop μ-loop
 returns-2 c =
     let start = c .before .before .before .before .before .before .before .before .before .before .before in
     let loop = c .before .before .before .loop in
-    filling-end _ _ _ (loop .inv .2) (no-flow (start .args .file .now) (loop .at) (start .args .c .end) (loop .inv .1) (c .before .before .flow-view .ensures) (c .enum-told .given .1))
+    filling-end _ _ _ (loop .inv .1) (no-flow (start .args .file .now) (loop .at) (start .args .c .end) (loop .inv .2) (c .before .before .flow-view .ensures) (c .enum-told .given .1))
 
 put-flow-requires : tie.Need-put-flow-requires Inv-loop μ-loop
 put-flow-requires c κs =
@@ -53,7 +53,7 @@ put-flow-requires c κs =
     let v = c .before .before .v in
     let l = flow-laid (start .args .file .now) (loop .at) (start .args .c .end) (v .given .0 .0) (flow-view .ensures) (v .given .1) in
     let r = readable (start .args .file .now) (start .args .c) refl (start .pre) .order in
-    omega (arith, loop .inv .2 .room)
+    omega (arith, loop .inv .1 .room)
 
 loop-less : tie.Need-loop-less Inv-loop μ-loop
 loop-less c =
@@ -78,10 +78,10 @@ loop-again c =
     let v = at-v .v in
     let l = flow-laid (start .args .file .now) (loop .at) (start .args .c .end) (v .given .0 .0) (flow-view .ensures) (v .given .1) in (
       omega (arith, loop .inv .0),
-      flow-readable (start .args .file .now) (loop .at) (start .args .c .end) (loop .inv .1) (flow-view .ensures) (v .given .0 .0) (v .given .1) .rest,
-      filling-next (loop .inv .2) (v .given .0 .0)
+      filling-next (loop .inv .1) (v .given .0 .0)
           (flow-viewed (start .args .file .now) (loop .at) (start .args .c .end) (v .given .0 .0) (flow-view .ensures) (v .given .1))
           (c .before .before .put-flow .ensures),
+      flow-readable (start .args .file .now) (loop .at) (start .args .c .end) (loop .inv .2) (flow-view .ensures) (v .given .0 .0) (v .given .1) .rest,
     )
 
 pub put-functions-spec : {M : Type 1} → statement M
