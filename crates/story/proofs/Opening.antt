@@ -1,14 +1,15 @@
--- The file: its sections stand in order, and how reading them ends. Assumes nothing.
-use mathlib.Core.Path.{_≡_, refl, sym, _∙_}
-use mathlib.Core.List.{List}
+-- The file: its sections stand in order, how reading them ends, and what it answers in numbers. Assumes nothing.
+use mathlib.Core.Path.{_≡_, refl, sym, _∙_, ap}
+use mathlib.Core.List.{List, [], _∷_}
 use mathlib.Core.Bool.{Bool, true, false, not, _&&_, _||_}
 use Prim.Native.Nat.{ℕ, _-_}
 use native.Mathlib.Omega.{arith}
 use lib.Dec.{ltb, eqb}
-use lib.ListN.{length}
+use lib.ListN.{length, getD}
 use borrow.Author.Tests.{ltb-false}
 use Rattle.fields.specs.declared.Refusal.{Refusal}
-use Rattle.fields.specs.declared.Refusal.the-variants.{Length, Mark, Starts}
+use Rattle.fields.specs.declared.Refusal.the-variants.{Length, Mark, Starts, Short, Unknown, Deep}
+use Rattle.fields.specs.Refusals.{refusalNumber}
 use Rattle.fields.specs.Bytes.{pick}
 use Rattle.records.specs.Trace.{Ending, well, refused, ends}
 use Rattle.records.specs.Grammar.{nodes}
@@ -20,6 +21,8 @@ use Rattle.story.specs.declared.Ended.the-variants as ended
 use Rattle.story.specs.Flows.{names, flows, part}
 use Rattle.story.specs.File.{marked, startAt, sectionsOf, InOrder, openedOf, sectionsRead, readEnded, readAt, readOf}
 use Rattle.story.specs.Endings.{endOf}
+use Rattle.story.specs.Results.{ReadResult, readResultOf, readingOf}
+use Rattle.story.specs.Results as result
 use Rattle.story.proofs.Endings.{thenEnds, ends-then, ends-shift}
 
 -- 1. The trailer
@@ -89,3 +92,32 @@ module _ (s : List ℕ) where
         by-end : (e : Ending) → endOf e ≡ ended.Well → opened.At c ≡ readEnded e (opened.At c)
         by-end well p = refl
         by-end (refused y) p = let z : _≡_ {A = ℕ} 0 1 = cc in absurd (omega arith)
+
+-- 4. In numbers
+
+-- the refusal with a number, and what was answered with a result
+refusals : List Refusal
+refusals = Length ∷ Length ∷ Mark ∷ Starts ∷ Short ∷ Unknown ∷ Deep ∷ []
+
+openedOfResult : ReadResult → Opened
+openedOfResult (result.refused n) = opened.Refused (getD refusals n Length)
+openedOfResult (result.sections externals root flows end) = opened.At (record { externals = externals; root = root; flows = flows; end = end })
+
+refusal-back : (r : Refusal) → getD refusals (refusalNumber r) Length ≡ r
+unfolding refusals refusalNumber
+refusal-back Length = refl
+refusal-back Mark = refl
+refusal-back Starts = refl
+refusal-back Short = refl
+refusal-back Unknown = refl
+refusal-back Deep = refl
+
+back : (o : Opened) → openedOfResult (readResultOf o) ≡ o
+unfolding openedOfResult readResultOf
+back (opened.Refused r) = ap opened.Refused (refusal-back r)
+back (opened.At c) = refl
+
+-- the numbers tell what was answered
+pub read-opened : (r : Opened) (file : List ℕ) → readResultOf r ≡ readingOf file → r ≡ readOf file
+unfolding readingOf
+read-opened r file e = sym (back r) ∙ (ap openedOfResult e ∙ back (readOf file))

@@ -5,4 +5,5 @@ pub mod Headings
 pub mod Flows
 pub mod Endings
 pub mod File
+pub mod Results
 pub mod Whole

@@ -1,7 +1,8 @@
 // The story file: trailer and sections, the headings of flows and stitches, and the reading pass over a whole file.
 ghost use mathlib.Core.Path.{_≡_};
 ghost use Rattle.records.specs.Trace.{ends};
-ghost use Rattle.story.specs.File.{sectionsRead, readOf, InOrder};
+ghost use Rattle.story.specs.File.{sectionsRead, InOrder};
+ghost use Rattle.story.specs.Results.{readResultOf, readingOf};
 ghost use Rattle.story.specs.Endings.{endOf};
 
 pub mod flows;
@@ -80,7 +81,7 @@ fn read_sections(file: &[u8], c: Sections) -> Ended
 
 // The reading pass over a whole file: its sections, or the refusal.
 pub fn read(file: &[u8]) -> Opened
-    ensures { λ r. ⌜ r ≡ readOf (now (file .entry)) ⌝ }
+    ensures { λ r. ⌜ readResultOf r ≡ readingOf (now (file .entry)) ⌝ }
 {
     let opened = read_trailer(file);
     match opened {
