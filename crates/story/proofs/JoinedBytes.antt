@@ -1,40 +1,34 @@
--- What is read well is joined, without a gap: names, parameters, records, lists, stitches and flows are the bytes that they were read from. Assumes nothing.
+-- What is read well is joined, without a gap: names, parameters, pieces, records and node lists are the bytes that they were read from. Assumes nothing.
 use mathlib.Core.Path.{_≡_, refl, sym, _∙_, ap, subst}
 use mathlib.Core.Bool.{Bool, true, false}
-use mathlib.Core.List.{List, [], _∷_, _++_, map}
+use mathlib.Core.List.{List, [], _∷_, _++_}
 use Prim.Native.Nat.{ℕ, zero, suc, _+_, _-_, _≤_, _<_}
 use native.Mathlib.Nat.{add-zero, add-assoc}
 use native.Mathlib.Numerals.{sub-one}
 use native.Mathlib.Omega.{arith}
-use lib.Dec.{T, ltb, eqb, eqb→eq}
+use lib.Dec.{ltb}
 use lib.ListN.{length, getD, take, drop, length-drop, take-append-drop}
-use lib.Seq.{length-take-le, take-add, take-all, drop-cons, drop-drop, getD-take, getD-drop}
-use Rattle.fields.specs.declared.Refusal.the-variants.{Short, Unknown}
+use lib.Seq.{length-take-le, take-add, drop-cons, drop-drop, getD-take, getD-drop}
 use Rattle.fields.specs.declared.Role.the-variants.{Node}
-use Rattle.fields.specs.declared.Head.{Head}
 use Rattle.fields.specs.declared.Head.the-variants as head
 use Rattle.fields.specs.declared.Span.{Span}
 use Rattle.fields.specs.declared.Span.the-variants as span
 use Rattle.fields.specs.declared.NameRead.{NameRead}
 use Rattle.fields.specs.declared.NameRead.the-variants as name
-use Rattle.fields.specs.declared.FlagRead.{FlagRead}
-use Rattle.fields.specs.declared.FlagRead.the-variants as flag
-use Rattle.fields.specs.Bytes.{pick, le32At, headOf, listOf, nameOf, flagOf}
+use Rattle.fields.specs.Bytes.{pick, le32At, headOf, listOf, nameOf}
 use Rattle.fields.proofs.Laws.{head-fits, list-fits, name-fits}
 use Rattle.names.specs.Words.{each}
-use Rattle.records.specs.Trace.{Record, met, well, refused, ends}
-use Rattle.records.specs.Grammar.{Reading, repeat, ending, recordOf, nodes}
+use Rattle.records.specs.Trace.{Record, met, well, ends}
+use Rattle.records.specs.Grammar.{Reading, repeat, nodes}
 use Rattle.story.specs.declared.Reach.the-variants as reach
-use Rattle.story.specs.declared.Heading.{Heading}
-use Rattle.story.specs.Story.{Name, Item, Stitch, Flow}
-use Rattle.story.specs.Items.{nameIn, itemOf, itemsAs, itemsIn}
+use Rattle.story.specs.Story.{Name}
+use Rattle.story.specs.Items.{itemsAs, itemsIn}
 use Rattle.story.specs.Headings.{reachAt, namesReach, countedReach}
-use Rattle.story.specs.Flows.{names, titled, piece, stitch, flow, namesN, namesIn, countedIn, part, piecesAt, piecesN, piecesIn, stitchIn, flowIn, stitches}
-use Rattle.story.specs.Whole.{Joined, Sized, IsName, AreCounted, IsRecord, withInside, AreNodes, IsList, IsTitle, IsStitch, Flagged, IsFlow}
+use Rattle.story.specs.Flows.{names, piece, namesN, namesIn, countedIn, part, piecesAt, piecesN, piecesIn}
+use Rattle.story.specs.Whole.{Joined, Sized, IsName, AreCounted, IsRecord, withInside, AreNodes, IsList}
 use Rattle.story.proofs.Reaches.{names-fit, counted-read, counted-fits}
-use Rattle.story.proofs.Titles.{flagEnds, flow-ends}
-use Rattle.story.proofs.Readable.{names-front, names-rest, piece-first, piece-rest, piece-none-left, TitledWell, titled-heading, flow-titled, stitch-titled}
-use Rattle.story.proofs.Unfolding.{front, name-count, names-n-step, titled-in, flow-in}
+use Rattle.story.proofs.Readable.{names-front, names-rest, piece-first, piece-rest, piece-none-left}
+use Rattle.story.proofs.Unfolding.{front, name-count, names-n-step}
 use Rattle.story.proofs.Parts.{part-length}
 use Rattle.story.proofs.RecordsMet.{Nodes, none, next, met-no-node, nodes-front}
 
@@ -54,12 +48,12 @@ part-front a k b s h =
     let size : b - a ≡ k + (b - (a + k)) = omega arith in rw (size, take-add k (b - (a + k)) (drop a s), drop-drop k a s)
 
 -- a part is two parts
-part-split : (a m b : ℕ) (s : List ℕ) → a ≤ m → m ≤ b → part a b s ≡ part a m s ++ part m b s
+pub part-split : (a m b : ℕ) (s : List ℕ) → a ≤ m → m ≤ b → part a b s ≡ part a m s ++ part m b s
 unfolding part
 part-split a m b s p q = let on : a + (m - a) ≡ m = omega arith in rw on at (part-front a (m - a) b s (omega arith))
 
 -- the first bytes are fewer of them and a part
-front-split : (a b : ℕ) (s : List ℕ) → a ≤ b → take b s ≡ take a s ++ part a b s
+pub front-split : (a b : ℕ) (s : List ℕ) → a ≤ b → take b s ≡ take a s ++ part a b s
 unfolding part
 front-split a b s h = let on : a + (b - a) ≡ b = omega arith in rw on at (take-add a (b - a) s)
 
@@ -71,6 +65,7 @@ part-cons a b s h q =
     let on : suc a ≡ a + 1 = omega arith in
     rw (size, drop-cons s a 0 h, on)
 
+-- no bytes
 no-bytes : (s : List ℕ) → length s ≤ 0 → s ≡ []
 no-bytes [] h = refl
 no-bytes (x ∷ s) h = absurd (omega arith)
@@ -78,7 +73,7 @@ no-bytes (x ∷ s) h = absurd (omega arith)
 -- 2. Names
 
 -- a name with its count byte
-is-name : (at k : ℕ) (t : List ℕ) → nameOf t ≡ name.Bytes k → IsName at (take (1 + k) t) (front at k t)
+pub is-name : (at k : ℕ) (t : List ℕ) → nameOf t ≡ name.Bytes k → IsName at (take (1 + k) t) (front at k t)
 is-name at k [] e = absurd (omega (arith, name-fits [] k refl e))
 is-name at k (x ∷ t) e =
     let count : x ≡ k = name-count (x ∷ t) k refl e in
@@ -92,6 +87,7 @@ name-joined at k s t rest ns told e later =
     let size : length (take (1 + k) t) ≡ 1 + k = length-take-le (1 + k) t (name-fits t k refl told) in
     (take (1 + k) t, rest, e, is-name at k t told, rw size later)
 
+-- at most n names to the end
 names-joined-n : (n at : ℕ) (t : List ℕ) → length t ≤ n → ends (names t) ≡ well → Joined IsName at t (namesN n at t)
 unfolding namesN
 names-joined-n zero at t h good = no-bytes t h
@@ -130,7 +126,7 @@ reach-joined b s (suc n) p {e} h q = by-name (nameOf (drop p s)) refl q (λ k. r
     by-name (name.Refused x) told q later = let z : _≡_ {A = ℕ} 0 1 = cc in absurd (omega arith)
 
 -- a count byte and so many names
-counted-joined : (b : ℕ) (s : List ℕ) (p : ℕ) {e : ℕ} → countedReach s p ≡ reach.To e → AreCounted (b + p) (part p e s) (countedIn (b + p) (drop p s))
+pub counted-joined : (b : ℕ) (s : List ℕ) (p : ℕ) {e : ℕ} → countedReach s p ≡ reach.To e → AreCounted (b + p) (part p e s) (countedIn (b + p) (drop p s))
 unfolding countedIn
 counted-joined b s p {e} q =
     let c = counted-read s p q in
@@ -161,6 +157,7 @@ list-sized t k told = sized t k (list-fits t k refl told) (by-tests (ltb (length
 -- pieces by g to the end, each made by f: they are joined
 module _ {A : Type 0} (g : Reading) (f : ℕ → List ℕ → A) (P : ℕ → List ℕ → A → Type 0)
     (own : (at : ℕ) (size u : List ℕ) → Sized size u → ends (g u) ≡ well → P at (size ++ u) (f at u)) where
+  -- at most n of them
   pieces-joined-n : (n at : ℕ) (t : List ℕ) → length t ≤ n → ends (repeat (piece g) t) ≡ well → Joined P at t (piecesN n f at t)
   unfolding piecesN piecesAt
   pieces-joined-n zero at t h good = no-bytes t h
@@ -180,6 +177,7 @@ module _ {A : Type 0} (g : Reading) (f : ℕ → List ℕ → A) (P : ℕ → Li
           )
       by-span span.Cut told later = no-bytes t (piece-none-left g t good refl told)
 
+  -- all of them
   pub pieces-joined : (at : ℕ) (t : List ℕ) → ends (repeat (piece g) t) ≡ well → Joined P at t (piecesIn f at t)
   unfolding piecesIn
   pieces-joined at t good = pieces-joined-n (length t) at t (omega arith) good
@@ -225,7 +223,7 @@ unfolding itemsIn itemsAs
 are-nodes at t good = let d = nodes-joined (length t) at t (omega arith) good in record { records = d .0; joined = d .1; all = rw (good, d .2) }
 
 -- a node list at the front
-is-list : (at n : ℕ) (t : List ℕ) → listOf t ≡ span.Bytes n → ends (nodes (take n (drop 4 t))) ≡ well → IsList at (take (4 + n) t) (itemsIn (at + 4) (take n (drop 4 t)))
+pub is-list : (at n : ℕ) (t : List ℕ) → listOf t ≡ span.Bytes n → ends (nodes (take n (drop 4 t))) ≡ well → IsList at (take (4 + n) t) (itemsIn (at + 4) (take n (drop 4 t)))
 is-list at n t told good = record {
   size = take 4 t;
   nodes = take n (drop 4 t);
@@ -233,106 +231,3 @@ is-list at n t told good = record {
   sized = list-sized t n told;
   records = are-nodes (at + 4) (take n (drop 4 t)) good;
 }
-
--- 5. Titles, stitches and flows
-
-module _ (at : ℕ) {k : Reading} {h : Heading} {s : List ℕ} (w : TitledWell k h s) where
-  -- the node list of a title
-  title-list : IsList (at + (h .nodes - 4)) (part (h .nodes - 4) (h .end) s) (itemsIn (at + h .nodes) (part (h .nodes) (h .end) s))
-  unfolding part
-  title-list =
-      let list = h .nodes - 4 in
-      let n = h .end - h .nodes in
-      let size : 4 + n ≡ h .end - list = omega (arith, w .laid .marks, w .laid .nodes) in
-      let begin : list + 4 ≡ h .nodes = omega (arith, w .laid .marks) in
-      let place : at + list + 4 ≡ at + h .nodes = omega (arith, w .laid .marks) in
-      rw (size, drop-drop 4 list s, begin, place) at (is-list (at + list) n (drop list s) (w .laid .list-read) (rw (drop-drop 4 list s, begin) (w .nodes)))
-
-  -- the name of a title
-  title-name : IsName at (take (h .params) s) (record { at = at; bytes = nameIn s })
-  unfolding nameIn
-  title-name =
-      let first : 1 + (h .params - 1) ≡ h .params = omega (arith, w .laid .some) in
-      rw (name-count s (h .params - 1) refl (w .laid .name-read)) (rw first at (is-name at (h .params - 1) s (w .laid .name-read)))
-
-  title-is : IsTitle at (take (h .end) s) (record {
-    name = record { at = at; bytes = nameIn s };
-    params = countedIn (at + h .params) (drop (h .params) s);
-    marks = countedIn (at + h .marks) (drop (h .marks) s);
-    body = itemsIn (at + h .nodes) (part (h .nodes) (h .end) s);
-  })
-  title-is =
-      let list = h .nodes - 4 in
-      let name = take (h .params) s in
-      let params = part (h .params) (h .marks) s in
-      let marks = part (h .marks) list s in
-      let name-size : length name ≡ h .params = length-take-le (h .params) s (omega (arith, w .laid)) in
-      let params-size = part-length (h .params) (h .marks) s (omega (arith, w .laid)) in
-      let marks-size = part-length (h .marks) list s (omega (arith, w .laid)) in
-      let params-end : at + length name + length params ≡ at + h .marks = omega (arith, name-size, params-size, w .laid) in
-      let marks-end : at + length name + length params + length marks ≡ at + list = omega (arith, name-size, params-size, marks-size, w .laid) in
-      record {
-        name = name;
-        params = params;
-        marks = marks;
-        list = part list (h .end) s;
-        bytes = front-split (h .params) (h .end) s (omega (arith, w .laid)) ∙ ap (λ (u : List ℕ). name ++ u)
-            (part-split (h .params) (h .marks) (h .end) s (omega (arith, w .laid)) (omega (arith, w .laid)) ∙ ap (λ (u : List ℕ). params ++ u)
-            (part-split (h .marks) list (h .end) s (omega (arith, w .laid)) (omega (arith, w .laid))));
-        is-name = title-name;
-        are-params = rw name-size (counted-joined at s (h .params) (w .laid .params-read));
-        are-marks = rw params-end (counted-joined at s (h .marks) (w .laid .marks-read));
-        is-list = rw marks-end title-list;
-      }
-
--- nothing is left where nothing more was read
-none-after : (s : List ℕ) → ends (ending s) ≡ well → length s ≤ 0
-unfolding ending ends
-none-after [] e = omega arith
-none-after (x ∷ s) e = let z : _≡_ {A = ℕ} 0 1 = cc in absurd (omega arith)
-
-is-stitch : (at : ℕ) (size u : List ℕ) → Sized size u → ends (stitch u) ≡ well → IsStitch at (size ++ u) (stitchIn at u)
-unfolding stitchIn
-is-stitch at size u z good =
-    let d = titled-heading ending u (stitch-titled u good) in
-    let h = d .0 in
-    let whole : take (h .end) u ≡ u = take-all (h .end) u (omega (arith, none-after (drop (h .end) u) (d .1 .rest), length-drop (h .end) u)) in
-    rw (titled-in (at + 4) u h refl (d .1 .told)) (record { size = size; title = u; bytes = refl; sized = z; is-title = rw whole at (title-is (at + 4) (d .1)) })
-
--- the flag of a flow
-flow-flag : (u : List ℕ) → ends (flow u) ≡ well → Flagged (getD u 0 0) (eqb (getD u 0 0) 1)
-unfolding flagOf flagEnds
-flow-flag u good = by-tests (ltb (length u) 1) (eqb (getD u 0 0) 0) (eqb (getD u 0 0) 1) refl refl (rw (flow-ends u) at good)
-  where
-    by-tests : (i j k : Bool) → eqb (getD u 0 0) 0 ≡ j → eqb (getD u 0 0) 1 ≡ k
-        → flagEnds (pick i (flag.Refused Short) (pick j flag.Off (pick k flag.On (flag.Refused Unknown)))) (ends (titled stitches (drop 1 u))) ≡ well → Flagged (getD u 0 0) k
-    by-tests true j k p q e = let z : _≡_ {A = ℕ} 0 1 = cc in absurd (omega arith)
-    by-tests false true true p q e = eqb→eq (getD u 0 0) 1 (rw q tt)
-    by-tests false true false p q e = eqb→eq (getD u 0 0) 0 (rw p tt)
-    by-tests false false true p q e = eqb→eq (getD u 0 0) 1 (rw q tt)
-    by-tests false false false p q e = let z : _≡_ {A = ℕ} 0 1 = cc in absurd (omega arith)
-
-pub is-flow : (at : ℕ) (size u : List ℕ) → Sized size u → ends (flow u) ≡ well → IsFlow at (size ++ u) (flowIn at u)
-is-flow at size u z good =
-    let f = flow-titled u good in
-    let d = titled-heading stitches (drop 1 u) (f .1) in
-    let h = d .0 in
-    let title = take (h .end) (drop 1 u) in
-    let rest = drop (h .end) (drop 1 u) in
-    let opened : u ≡ getD u 0 0 ∷ title ++ rest
-    = drop-cons u 0 0 (f .0) ∙ ap (λ (v : List ℕ). getD u 0 0 ∷ v) (sym (take-append-drop (h .end) (drop 1 u))) in
-    let after : at + 5 + length title ≡ at + (5 + h .end) = omega (arith, length-take-le (h .end) (drop 1 u) (d .1 .laid .within)) in
-    let joined : Joined IsStitch (at + (5 + h .end)) rest (piecesIn stitchIn (at + (5 + h .end)) (drop (1 + h .end) u))
-    = rw (drop-drop (h .end) 1 u) (pieces-joined stitch stitchIn IsStitch is-stitch (at + (5 + h .end)) (drop (1 + h .end) u) (rw (drop-drop (h .end) 1 u) at (d .1 .rest))) in
-    rw (flow-in at u h refl (d .1 .told)) (record {
-      size = size;
-      flag = getD u 0 0;
-      title = title;
-      stitches = rest;
-      bytes = ap (λ (v : List ℕ). size ++ v) opened;
-      sized = subst (λ (v : List ℕ). Sized size v) opened z;
-      place = refl;
-      flagged = flow-flag u good;
-      is-title = title-is (at + 5) (d .1);
-      are-stitches = rw after joined;
-    })

@@ -16,5 +16,6 @@ pub mod Named
 pub mod Owned
 pub mod RecordsMet
 pub mod JoinedBytes
+pub mod JoinedFlows
 pub mod Whole
 pub mod WholeExample

@@ -16,9 +16,9 @@ use Rattle.records.specs.Grammar.{Reading, repeat, ending, nodes}
 use Rattle.records.proofs.Traces.{done-then}
 use Rattle.story.specs.declared.Sections.{Sections}
 use Rattle.story.specs.declared.Opened.the-variants as opened
-use Rattle.story.specs.Story.{Item, Stitch, Flow}
+use Rattle.story.specs.Story.{Item, Stitch}
 use Rattle.story.specs.Items.{itemOf, itemsAs, itemsIn}
-use Rattle.story.specs.Flows.{names, piece, stitch, flow, flows, part, piecesAt, piecesN, piecesIn, stitchIn, flowIn, flowsIn, stitches}
+use Rattle.story.specs.Flows.{piece, stitch, flow, flows, part, piecesAt, piecesN, piecesIn, stitchIn, flowIn, flowsIn, stitches}
 use Rattle.story.specs.File.{sectionsRead, readOf, storyIn}
 use Rattle.story.specs.Whole.{IsFlow, flowItems, storyItems, Whole}
 use Rattle.story.proofs.Endings.{ends-shift}
@@ -29,16 +29,19 @@ use Rattle.story.proofs.Places.{ItemBefore, items-sorted}
 use Rattle.story.proofs.Induction.{Kept, nodes-hold, flows-hold}
 use Rattle.story.proofs.WellInside.{Apart, Spaced, spaced, met-apart}
 use Rattle.story.proofs.RecordsMet.{met-then, met-shift, names-done, met-titled, met-ending, met-flow, met-no-piece, met-piece}
-use Rattle.story.proofs.JoinedBytes.{part-rest, names-joined, pieces-joined, are-nodes, is-flow}
+use Rattle.story.proofs.JoinedBytes.{part-rest, names-joined, pieces-joined, are-nodes}
+use Rattle.story.proofs.JoinedFlows.{is-flow}
 
 -- 1. The items are the records met
 
+-- of nodes
 items-met : (b : ℕ) (s : List ℕ) → ends (nodes s) ≡ well → itemsIn b s ≡ map itemOf (met b (nodes s))
 unfolding itemsIn itemsAs
 items-met b s good = rw good
 
 -- of pieces, where it is so of each
 module _ {A : Type 0} (g : Reading) (f : ℕ → List ℕ → A) (items : A → List Item) (own : (p : ℕ) (u : List ℕ) → ends (g u) ≡ well → items (f p u) ≡ map itemOf (met (p + 4) (g u))) where
+  -- at most n of them
   pieces-met-n : (n at : ℕ) (t : List ℕ) → length t ≤ n → ends (repeat (piece g) t) ≡ well → each items (piecesN n f at t) ≡ map itemOf (met at (repeat (piece g) t))
   unfolding piecesN piecesAt
   pieces-met-n zero at t h good = rw (met-no-piece g t at h)
@@ -54,6 +57,7 @@ module _ {A : Type 0} (g : Reading) (f : ℕ → List ℕ → A) (items : A → 
           rw (met-piece g t at k good told, map-append itemOf (met (at + 4) first) (met (at + (4 + k)) rest), own at (take k (drop 4 t)) (piece-first g t good k refl told), later k (omega (arith, list-fits t k refl told, length-drop (4 + k) t)) (piece-rest g t good k refl told))
       by-span span.Cut told later = rw (met-no-piece g t at (piece-none-left g t good refl told))
 
+  -- all of them
   pieces-met : (at : ℕ) (t : List ℕ) → ends (repeat (piece g) t) ≡ well → each items (piecesIn f at t) ≡ map itemOf (met at (repeat (piece g) t))
   unfolding piecesIn
   pieces-met at t good = pieces-met-n (length t) at t (omega arith) good
@@ -82,9 +86,11 @@ flow-met p u good =
 -- 2. The whole file
 
 module _ (c : Sections) (s : List ℕ) (r : Readable c s) where
+  -- the reading of the root
   abbrev root : Trace
   root = nodes (part (c .root) (c .flows) s)
 
+  -- the reading of the flows
   abbrev rest : Trace
   rest = flows (part (c .flows) (c .end) s)
 
@@ -126,6 +132,7 @@ module _ (c : Sections) (s : List ℕ) (r : Readable c s) where
       ∙ ap (λ (u : List ℕ). part (c .externals) (c .root) s ++ u) (part-rest (c .root) (c .flows) s (r .order .root)
       ∙ ap (λ (u : List ℕ). part (c .root) (c .flows) s ++ u) (part-rest (c .flows) (c .end) s (r .order .flows))))
 
+  -- all of it
   readable-whole : Whole c s
   unfolding storyIn flowsIn
   readable-whole = record {
