@@ -81,7 +81,8 @@ flow-met p u good =
     let list = part (h .nodes) (h .end) (drop 1 u) in
     let begin : p + 4 + 1 ≡ p + 5 = omega arith in
     let inner = pieces-met stitch stitchIn (λ (t : Stitch). t .body) stitch-met (p + (5 + h .end)) (drop (1 + h .end) u) (rw (drop-drop (h .end) 1 u) at (d .1 .rest)) in
-    rw (flow-in p u h refl (d .1 .told), met-flow (p + 4) u good, begin, met-titled (p + 5) (d .1), map-append itemOf (met (p + 5 + h .nodes) (nodes list)) (met (p + 5 + h .end) (stitches (drop (h .end) (drop 1 u)))), drop-drop (h .end) 1 u, add-assoc p 5 (h .end), items-met (p + 5 + h .nodes) list (d .1 .nodes), inner)
+    rw (flow-in p u h refl (d .1 .told), met-flow (p + 4) u good, begin, met-titled (p + 5) (d .1), map-append itemOf (met (p + 5 + h .nodes) (nodes list)) (met (p + 5 + h .end) (stitches (drop (h .end) (drop 1 u)))), drop-drop (h .end) 1 u, add-assoc p 5 (h .end), items-met (p + 5 + h .nodes) list (d .1 .nodes))
+    (ap (λ (l : List Item). map itemOf (met (p + 5 + h .nodes) (nodes list)) ++ l) inner)
 
 -- 2. The whole file
 
