@@ -43,7 +43,7 @@ use Rattle.rules.specs.Meaning.{Is, Broken}
 use Rattle.rules.specs.Reader.{Readable, storyOf}
 use Rattle.rules.specs.Sorts.{VisitedAs, InBranch, ListThen, LabelThen, ChoiceOf, Kinds, leavingKinds, LastLeaves, Leaves, Undiverted, BodyOf}
 use Rattle.rules.proofs.Sorts.{visited-sort, sort-visited}
-use Rattle.rules.proofs.Branches.{in-branch}
+use Rattle.rules.proofs.Branches.{node-kind, in-branch}
 use Rattle.rules.proofs.FileBodies.{file-bodies}
 
 -- 1. The last kind that is no Newline's
@@ -301,9 +301,8 @@ item-branch b s good r m = in-branch b s good r m
 
 -- a choice among the records is read well as one
 choice-known : (role : Role) (kind : ℕ) (payload : List ℕ) → VisitedAs choice role kind payload → kindOf role kind ≡ Known body.Choice
-unfolding kindOf nodeKind
-choice-known role kind payload (inl e, k) = rw (e, k)
-choice-known role kind payload (inr e, k) = rw (e, k)
+unfolding nodeKind
+choice-known role kind payload v = rw (node-kind role kind (v .0), v .1)
 
 pub item-leaves : (b : ℕ) (s : List ℕ) → ends (nodes s) ≡ well → (r : Record) → r ∈ met b (nodes s) → VisitedAs choice (r .role) (r .kind) (r .payload)
     → Means (itemOf r .what .leaves) (Leaves (r .payload))

@@ -13,7 +13,7 @@ use Rattle.fields.specs.Kinds.{kindOf}
 use Rattle.records.specs.Trace.{Trace, done, refuse, emit, andThen, shift, Record, met, well, refused, ends}
 use Rattle.records.specs.Grammar.{bodyOf, recordOf, nodes}
 use Rattle.story.proofs.Endings.{ends-then, ends-shift, first-well, second-well}
-use Rattle.story.proofs.Induction.{Kept, nodes-hold}
+use Rattle.story.proofs.Induction.{Each, each-then, each-shift, each-met, Kept, nodes-hold}
 
 -- 1. Read well inside
 
@@ -25,53 +25,28 @@ pub record Bears (role : Role) (kind : ℕ) (payload : List ℕ) : Type 0 where
   pub inside : ends (bodyOf body (recordOf left) payload) ≡ well
 
 -- each record of the trace is
-Good : Trace → Type 0
-Good done = Unit {0}
-Good (refuse r) = Unit {0}
-Good (emit role kind p bs t) = Bears role kind bs × Good t
-
-good-then : (t u : Trace) → Good t → Good u → Good (andThen t u)
-unfolding Good andThen
-good-then done u g h = h
-good-then (refuse r) u g h = tt
-good-then (emit role kind p bs t) u g h = (g .0, good-then t u (g .1) h)
-
-good-shift : (k : ℕ) (t : Trace) → Good t → Good (shift k t)
-unfolding Good shift
-good-shift k done g = tt
-good-shift k (refuse r) g = tt
-good-shift k (emit role kind p bs t) g = (g .0, good-shift k t (g .1))
+abbrev Good : Trace → Type 0
+Good t = Each Bears t
 
 -- good where reading ends well
 abbrev Sound : ℕ → ℕ → Trace → Type 0
 Sound lo hi t = ends t ≡ well → Good t
 
 sound : Kept Sound
-unfolding Good ends
+unfolding Each ends
 sound = record {
   wider = λ t p q h. h;
   none = λ lo hi e. tt;
-  refused = λ lo hi r e. tt;
-  both = λ t u p q g h e. good-then t u (g (first-well _ _ (sym (ends-then t u) ∙ e))) (h (second-well (ends t) _ (sym (ends-then t u) ∙ e)));
-  further = λ a lo hi t g e. good-shift a t (g (sym (ends-shift a t) ∙ e));
+  refused = λ lo hi r i e. tt;
+  both = λ t u p q g h e. each-then Bears t u (g (first-well _ _ (sym (ends-then t u) ∙ e))) (h (second-well (ends t) _ (sym (ends-then t u) ∙ e)));
+  further = λ a lo hi t g e. each-shift Bears a t (g (sym (ends-shift a t) ∙ e));
   one = λ left kind role s b known h e.
       let inside = sym (ends-shift 5 (bodyOf b (recordOf left) s)) ∙ e in
-      (record { left = left; body = b; known = known; inside = inside }, good-shift 5 (bodyOf b (recordOf left) s) (h inside));
+      (record { left = left; body = b; known = known; inside = inside }, each-shift Bears 5 (bodyOf b (recordOf left) s) (h inside));
 }
 
-met-good : (b : ℕ) (t : Trace) → Good t → (r : Record) → List·Memᴰ r (met b t) → Bears (r .role) (r .kind) (r .payload)
-unfolding Good met
-met-good b done g r m = absurd (List·Memᴰ·not-nil m)
-met-good b (refuse x) g r m = absurd (List·Memᴰ·not-nil m)
-met-good b (emit role kind p bs t) g r m = by-cases (met-good b t (g .1) r) (List·Memᴰ·cases-cons m)
-  where
-    by-cases : (List·Memᴰ r (met b t) → Bears (r .role) (r .kind) (r .payload))
-        → (r ≡ record { role = role; kind = kind; place = b + p; payload = bs }) ⊎ List·Memᴰ r (met b t) → Bears (r .role) (r .kind) (r .payload)
-    by-cases later (inl e) = rw e (g .0)
-    by-cases later (inr i) = later i
-
 pub record-bears : (b : ℕ) (s : List ℕ) → ends (nodes s) ≡ well → (r : Record) → List·Memᴰ r (met b (nodes s)) → Bears (r .role) (r .kind) (r .payload)
-record-bears b s good r m = met-good b (nodes s) (nodes-hold Sound sound s good) r m
+record-bears b s good r m = each-met Bears b (nodes s) (nodes-hold Sound sound s good) r m
 
 -- 2. Five bytes apart
 
@@ -105,7 +80,7 @@ unfolding Spaced
 spaced = record {
   wider = spaced-wider;
   none = λ lo hi. tt;
-  refused = λ lo hi r. tt;
+  refused = λ lo hi r i. tt;
   both = spaced-then;
   further = spaced-shift;
   one = λ left kind role s b known h.
