@@ -110,6 +110,12 @@ table =
     ∷
     row (story [] [] (knot k (node 30 temp t ∷ []) (stitch s (node 70 variable t ∷ node 80 temp t ∷ []) ∷ []) ∷ [])) 0
     ∷
+    -- two broken stitches: the first has no target t, the second bears the name of the global x
+    row (story (name 0 x ∷ []) [] (knot k [] (stitch s (node 70 divert t ∷ []) ∷ stitch x [] ∷ []) ∷ [])) 2
+    ∷
+    -- two broken flows: the first has gather a twice, the second is a function with a choice
+    row (story [] [] (knot k (label 40 gather a false ∷ label 49 gather a false ∷ []) [] ∷ function f (label 60 choice a false ∷ []) ∷ [])) 10
+    ∷
     []
 
 -- the verdict names the rule expected, in each row

@@ -124,9 +124,11 @@ module _ {readable : List ℕ → Type 0} {storyOf : List ℕ → Story} {partsO
   pub file-least : (file : List ℕ) → readable file → Least (storyOf file)
   file-least file i = demand3 .verdicts (storyOf file) (h .placed file i)
 
+  pub file-alike : (a b : List ℕ) → readable a → readable b → AlikeFiles (partsOf a) (partsOf b) → Alike (storyOf a) (storyOf b)
+  file-alike a b i j k = alike-read r (partsOf a) (partsOf b) (storyOf a) (storyOf b) (h .read a i) (h .read b j) k
+
   pub file-order : (a b : List ℕ) → readable a → readable b → AlikeFiles (partsOf a) (partsOf b) → (verdict (storyOf a) ≡ none) ↔ (verdict (storyOf b) ≡ none)
-  file-order a b i j k =
-      demand3 .order (storyOf a) (storyOf b) (alike-read r (partsOf a) (partsOf b) (storyOf a) (storyOf b) (h .read a i) (h .read b j) k)
+  file-order a b i j k = demand3 .order (storyOf a) (storyOf b) (file-alike a b i j k)
 
   pub file-once : (file : List ℕ) → readable file → Sorted (λ (b c : Breach). b ≡ c → ⊥) (breaches (storyOf file))
   file-once file i = once (storyOf file) (ordered (storyOf file) (h .placed file i))

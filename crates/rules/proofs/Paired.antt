@@ -25,6 +25,10 @@ pub paired-weaken : {A : Type 0} (R S : A → A → Type 0) → ((x y : A) → R
 paired-weaken R S f [] ys e = e
 paired-weaken R S f (x ∷ xs) ys w = (w .0, w .1, w .2, w .3, f x (w .0) (w .4), paired-weaken R S f xs (w .1 ++ w .2) (w .5))
 
+-- two may change places
+pub paired-swapped : {A : Type 0} (R : A → A → Type 0) {x y a b : A} → R x a → R y b → Paired R (x ∷ y ∷ []) (b ∷ a ∷ [])
+paired-swapped R {a = a} {b = b} p q = (a, b ∷ [], [], refl, p, (b, [], [], refl, q, refl))
+
 -- paired lists
 pub any-paired : {A : Type 0} (R : A → A → Type 0) (p q : A → Bool) → ((x y : A) → R x y → p x ≡ q y) → (xs ys : List A) → Paired R xs ys → any p xs ≡ any q ys
 any-paired R p q h [] ys e = sym (ap (any q) e)
@@ -60,3 +64,13 @@ any-often p l m h = bool-ext (any p l) (any p m) (over l m h) (over m l (λ w. s
     over l m h t =
         let r = any-of p l t in
         any-in p (count-in (r .0) m (subst (λ (n : ℕ). 0 < n) (h (r .0)) (in-count (r .1)))) (r .2)
+
+-- two words may change places
+pub often-swapped : (x y : Bytes) (l : List Bytes) → EquallyOften (x ∷ y ∷ l) (y ∷ x ∷ l)
+often-swapped x y l w = go (same w x) (same w y)
+  where
+    go : (a b : Bool) → more a (more b (count w l)) ≡ more b (more a (count w l))
+    go true true = refl
+    go true false = refl
+    go false true = refl
+    go false false = refl

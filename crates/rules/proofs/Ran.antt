@@ -77,8 +77,6 @@ in-one : (n : ℕ) (sc : Scope) (l : List Item) (st : Step) → record { no = n;
 unfolding over
 in-one n sc l st = List·Memᴰ·head refl
 
--- 2. How many steps are run for stitches
-
 over-size : (sc : Scope) (l : List Item) (sts : List Step) → length (over sc l sts) ≡ length sts
 unfolding over
 over-size sc l [] = refl
@@ -87,15 +85,7 @@ over-size sc l (st ∷ sts) = ap suc (over-size sc l sts)
 size-after : (n : ℕ) (sc : Scope) (l : List Item) (sts : List Step) → n + length (over sc l sts) ≡ n + length sts
 size-after n sc l sts = rw (over-size sc l sts)
 
-stitch-size : (f : Flow) (t : Stitch) → length (stitchRuns f t) ≡ 7
-unfolding stitchRuns
-stitch-size f t = simp (length-append, over-size)
-
-stitches-size : (f : Flow) (ts : List Stitch) → length (each (stitchRuns f) ts) ≡ 7 * length ts
-stitches-size f [] = refl
-stitches-size f (t ∷ ts) = omega (arith, length-append (stitchRuns f t) (each (stitchRuns f) ts), stitch-size f t, stitches-size f ts)
-
--- 3. Each step as run is one that is stated
+-- 2. Each step as run is one that is stated
 
 -- each of the steps as run, numbered from n on, is such that P
 record EachRan (P : ℕ → Run → Type 0) (n : ℕ) (us : List Run) : Type 0 where
@@ -126,6 +116,14 @@ only-in-stitch f t begin =
     (ran-one _ begin (stitch f t) (stitchItems t) s12 ran-name)
     (ran-over _ (begin + 1) 13 (stitch f t) (t .body) stitchSteps refl
     (λ st m h i e. subst (λ (j : ℕ). RanInStitch f t begin j (run (stitch f t) (t .body) st)) (omega arith) (ran-stitch-body m)))
+
+stitch-size : (f : Flow) (t : Stitch) → length (stitchRuns f t) ≡ 7
+unfolding stitchRuns
+stitch-size f t = simp (length-append, over-size)
+
+stitches-size : (f : Flow) (ts : List Stitch) → length (each (stitchRuns f) ts) ≡ 7 * length ts
+stitches-size f [] = refl
+stitches-size f (t ∷ ts) = omega (arith, length-append (stitchRuns f t) (each (stitchRuns f) ts), stitch-size f t, stitches-size f ts)
 
 -- a flow's steps 5 to 11
 abbrev step5 : Flow → List Run
@@ -194,7 +192,7 @@ module _ (s : Story) where
       record { holds = λ y m. ran-flow before f after e (only-in-flow f (flowBegin before) .holds y (rw (flows-size before) at m)) })))
       (ran-one _ (flowBegin (s .flows)) root (s .root) s20 ran-root-gathers)
 
--- 4. Each step that is stated is run
+-- 3. Each step that is stated is run
 
 -- the step has that number in the list, numbered from n on
 abbrev RanAs : ℕ → List Run → ℕ → Run → Type 0
@@ -277,7 +275,7 @@ pub how-many : (s : Story) → length (runs s) ≡ 4 + flowsSize (s .flows) + 1
 unfolding runs
 how-many s = simp (length-append, over-size, flows-size) (omega arith)
 
--- 5. In file order
+-- 4. In file order
 
 flows-size-append : (a : List Flow) (f : Flow) (b : List Flow) → flowsSize (a ++ (f ∷ b)) ≡ flowsSize a + flowSize f + flowsSize b
 flows-size-append [] f b = omega arith

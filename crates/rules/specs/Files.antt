@@ -36,11 +36,14 @@ pub record AlikeFlowBytes (f g : FlowBytes) : Type 0 where
   pub nodes : f .nodes ≡ g .nodes
   pub stitches : Paired (λ (s t : List ℕ). s ≡ t) (f .stitches) (g .stitches)
 
--- equal root bytes, the same names equally often as globals and likewise as externals, and flows that can be paired one to one
+-- files of which both are accepted or both in breach
 pub record AlikeFiles (a b : FileBytes) : Type 0 where
+  -- equal root bytes
   pub root : a .root ≡ b .root
+  -- the same names equally often as globals and likewise as externals
   pub globals : EquallyOften (a .globals) (b .globals)
   pub externals : EquallyOften (a .externals) (b .externals)
+  -- flows that can be paired one to one
   pub flows : Paired AlikeFlowBytes (a .flows) (b .flows)
 
 -- 2. A STORY WITHOUT PLACES
