@@ -74,6 +74,6 @@ pub record Looked (file before target : List ℕ) (r : LookupAnswer) (after : Li
   pub refusal-writes-nothing : (n : ℕ) → resultOf r ≡ refused n → after ≡ before
   -- a readable file is answered where the index has room
   pub answers : (c : Sections) → readOf file ≡ opened.At c → indexRoom file ≤ length before → (a : Answer) × (n : ℕ) × (resultOf r ≡ answered a n)
-  -- what is answered is so of the story in a readable file: the entry count is its, an entry matches, and Missing says that nothing does
+  -- what is answered is so of the story in a readable file: its entry count, an entry that matches, and Missing exactly where nothing does
   pub means : (a : Answer) (n : ℕ) → resultOf r ≡ answered a n
       → (c : Sections) × (readOf file ≡ opened.At c) × (n ≡ length (entries (storyIn c file))) × Meant (storyIn c file) target a
