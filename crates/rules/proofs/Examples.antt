@@ -1,17 +1,19 @@
--- P1 to P10 as stories with made-up places: the rule that the verdict names, 0 where accepted. Assumes nothing.
-use mathlib.Core.Path.{_≡_, refl, sym, subst}
+-- P1 to P10 as stories with made-up places: the rule that the verdict names, 0 where accepted; and the numbers of some steps as run.
+-- Assumes nothing.
+use mathlib.Core.Path.{_≡_, refl}
 use mathlib.Core.Bool.{Bool, true, false}
-use mathlib.Core.List.{List, [], _∷_, map, List·Memᴰ·not-nil, List·Memᴰ·eq-of-singleton}
+use mathlib.Core.List.{List, [], _∷_, map}
 use mathlib.Core.Option.{none, some}
-use Prim.Native.Nat.{ℕ, _<_}
-use lib.Dec.{lit<}
+use Prim.Native.Nat.{ℕ}
 use Rattle.names.specs.Words.{Bytes}
 use Rattle.names.specs.Reserved.{END, arrow, builtins}
 use Rattle.story.specs.Story.{Name, Kind, temp, divert, thread, variable, choice, gather, Item, Stitch, Flow, Story}
 use Rattle.symbols.specs.Index.{labelled, stitchEntries, flowEntries, entries}
 use Rattle.rules.specs.Rules.{broken, known, here, number}
-use Rattle.rules.specs.Steps.{over, stitchRuns, flowRuns, runs, breaches, verdict}
-use Rattle.rules.specs.Placed.{Placed}
+use Rattle.rules.specs.Rules as scope
+use Rattle.rules.specs.Steps.{s6, s12, run, stitchItems, over, stitchRuns, flowRuns, runs, breaches, verdict}
+use Rattle.rules.specs.Meaning.{Ran, ran-name, ran-params}
+use Rattle.rules.proofs.Ran.{flows-in-order, stitches-in-order}
 
 name : ℕ → Bytes → Name
 name at b = record { at = at; bytes = b }
@@ -123,10 +125,25 @@ examples : map (λ (r : Row). rule (r .given)) table ≡ map (λ (r : Row). r .e
 unfolding rule row table verdict breaches runs flowRuns stitchRuns over known entries flowEntries stitchEntries labelled here broken builtins name node label story knot function stitch
 examples = refl
 
--- what the reader supplies can be met
-a-placed : Placed (story [] (node 0 divert x ∷ node 7 divert x ∷ []) [])
-unfolding story node
-a-placed = record {
-  root = (λ j m. subst (λ (i : Item). 0 < i .place) (sym (List·Memᴰ·eq-of-singleton m)) (lit< tt), (λ j m. absurd (List·Memᴰ·not-nil m), tt));
-  flows = λ f m. absurd (List·Memᴰ·not-nil m);
-}
+-- knot k with stitches s and t, and knot x
+abbrev first : Flow
+first = knot k [] (stitch s [] ∷ stitch t [] ∷ [])
+
+abbrev second : Flow
+second = knot x [] []
+
+abbrev ordered : Story
+ordered = story [] [] (first ∷ second ∷ [])
+
+-- step 6 is run for k as number 5 and for x as number 27; step 12 for s as number 11 and for t as number 18
+record InOrder : Type 0 where
+  flows : Ran ordered 5 (run (scope.knot first) [] s6) × Ran ordered 27 (run (scope.knot second) [] s6)
+  stitches : Ran ordered 11 (run (scope.stitch first (stitch s [])) (stitchItems (stitch s [])) s12)
+      × Ran ordered 18 (run (scope.stitch first (stitch t [])) (stitchItems (stitch t [])) s12)
+
+in-order : InOrder
+unfolding story knot stitch
+in-order =
+    let p = flows-in-order ordered [] first [] second [] refl ran-params ran-params in
+    let q = stitches-in-order ordered [] first (second ∷ []) refl [] (stitch s []) [] (stitch t []) [] refl ran-name ran-name in
+    record { flows = (p .0, p .1); stitches = (q .0, q .1) }

@@ -1,5 +1,5 @@
--- `runs`, numbered from 0 on, has each step of the root, of each flow and of each stitch with the number that `Ran` gives, and no other: `the-steps`.
--- So the steps of an earlier flow or stitch have smaller numbers: `flows-in-order`, `stitches-in-order`. Assumes nothing.
+-- `runs`, numbered from 0 on, has each step of the root, of each flow and of each stitch with the number that `Ran` states, and no other:
+-- `the-steps`. The steps of an earlier flow or stitch have smaller numbers: `flows-in-order`, `stitches-in-order`. Assumes nothing.
 use mathlib.Core.Path.{_≡_, refl, sym, _∙_, ap, subst}
 use mathlib.Core.Bool.{Bool, true, false}
 use mathlib.Core.List.{List, [], _∷_, _++_, map, List·Memᴰ·head, List·Memᴰ·tail, List·Memᴰ·not-nil, List·Memᴰ·cases-cons, List·Memᴰ·eq-of-singleton, append-assoc}
@@ -35,9 +35,11 @@ record OneOf (n k : ℕ) (sc : Scope) (l : List Item) (sts : List Step) (y : Num
   the-number : y .no + k ≡ n + stepNumber st
   the-step : run sc l st ≡ y .it
 
+-- a step as run is known by its number and its run
 same-run : {n m : ℕ} {u v : Run} → n ≡ m → u ≡ v → _≡_ {A = Numbered Run} (record { no = n; it = u }) (record { no = m; it = v })
 same-run p q = λ i. record { no = p i; it = q i }
 
+-- what the list of such steps has
 module _ (sc : Scope) (l : List Item) where
   of-over : (n k : ℕ) (sts : List Step) → Consecutive k sts → (y : Numbered Run) → y ∈ numbered n (over sc l sts) → OneOf n k sc l sts y
   unfolding over
@@ -62,7 +64,8 @@ module _ (sc : Scope) (l : List Item) where
       })
       (List·Memᴰ·cases-cons m)
 
-  in-over : (n k : ℕ) (sts : List Step) → Consecutive k sts → (st : Step) → st ∈ sts → (k ≤ stepNumber st) × ((i : ℕ) → i + k ≡ n + stepNumber st → record { no = i; it = run sc l st } ∈ numbered n (over sc l sts))
+  in-over : (n k : ℕ) (sts : List Step) → Consecutive k sts → (st : Step) → st ∈ sts
+      → (k ≤ stepNumber st) × ((i : ℕ) → i + k ≡ n + stepNumber st → record { no = i; it = run sc l st } ∈ numbered n (over sc l sts))
   unfolding over
   in-over n k [] c st m = absurd (List·Memᴰ·not-nil m)
   in-over n k (x ∷ xs) c st m =
