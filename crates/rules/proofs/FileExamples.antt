@@ -2,10 +2,11 @@
 -- They meet what the theorems on files and on stories ask. Assumes nothing.
 use mathlib.Core.Path.{_≡_, refl, sym, _∙_, ap}
 use mathlib.Core.List.{List, [], _∷_, _++_}
-use mathlib.Core.Logic.{_↔_}
+use mathlib.Core.Logic.{_↔_, inl}
 use mathlib.Core.Option.{Option, none, some}
 use Prim.Native.Nat.{ℕ, _+_}
 use native.Mathlib.Omega.{arith}
+use lib.Dec.{lit<}
 use lib.ListN.{length}
 use Rattle.fields.specs.Bytes.{headOf, listOf, nameOf, flagOf}
 use Rattle.fields.specs.Kinds.{nodeKind, kindOf}
@@ -18,9 +19,13 @@ use Rattle.story.specs.Flows.{names, namesThen, counted, pieceAt, titled, stitc
 use Rattle.story.specs.File.{marked, startAt, sectionsOf, openedOf, sectionsRead, readEnded, readAt, readOf, storyIn}
 use Rattle.names.specs.Words.{Sorted}
 use Rattle.names.specs.Reserved.{builtins}
+use Rattle.names.specs.Counted.{nameAt}
 use Rattle.symbols.specs.Index as index
+use Rattle.symbols.specs.Numbers.{absent}
+use Rattle.rules.specs.declared.Rule.the-variants.{TargetNotFound}
 use Rattle.rules.specs.Rules.{broken, known, here, number}
 use Rattle.rules.specs.Steps.{over, stitchRuns, flowRuns, runs, Breach, breaches, verdict}
+use Rattle.rules.specs.Meaning.{Stands}
 use Rattle.rules.specs.Placed.{Placed}
 use Rattle.rules.specs.Alike.{Alike, AlikeShuffled}
 use Rattle.rules.specs.Files.{AlikeFlowBytes, AlikeFiles}
@@ -33,6 +38,7 @@ use Rattle.rules.proofs.Demand.{demand3}
 use Rattle.rules.proofs.Files.{file-alike}
 use Rattle.rules.proofs.Reader.{supplied}
 use Rattle.rules.proofs.FileDemand.{file-demand3}
+use Rattle.rules.proofs.NamesInFile.{verdict-names}
 
 -- 1. THE FILES
 
@@ -105,10 +111,16 @@ record Judged (file : List ℕ) (rule : ℕ) : Type 0 where
   readable : Readable file
   judged : ruleOf (verdict (storyOf file)) ≡ rule
 
+-- rule 2 in step 2, at the place 0, with the name at the place 5
+abbrev notFound : Breach
+notFound = record { instance = 1; rule = TargetNotFound; place = 0; names = (5, absent) }
+
 record Examples : Type 0 where
   -- the example with kind 3, and with kind 7 in its place
   target-missing : Judged (file 3) 2
   onward-unchecked : Judged (file 7) 0
+  -- the first one's breach
+  missing : verdict (storyOf (file 3)) ≡ some notFound
   -- the two files are readable and alike, whatever x is; the first is accepted where x is t, and in breach of rule 2 where it is x
   first : (x : ℕ) → Readable (inOrder x)
   second : (x : ℕ) → Readable (exchanged x)
@@ -123,6 +135,7 @@ unfolding file inOrder exchanged twoDiverts readOf readAt openedOf marked startA
 examples = record {
   target-missing = record { readable = record { sections = sections; told = refl }; judged = refl };
   onward-unchecked = record { readable = record { sections = sections; told = refl }; judged = refl };
+  missing = refl;
   first = λ x. record { sections = sectionsOf (inOrder x); told = refl };
   second = λ x. record { sections = sectionsOf (exchanged x); told = refl };
   alike = λ x. record {
@@ -168,6 +181,13 @@ accepted-too = by-order-law 116 .0 (examples .accepted)
 
 in-breach-too : verdict (storyOf (exchanged 120)) ≡ none → ⊥
 in-breach-too e = let z : _≡_ {A = ℕ} 0 2 = sym (ap ruleOf (by-order-law 120 .1 e)) ∙ examples .in-breach in omega arith
+
+-- the name that broke rule 2 is the file's at the place 5: x
+offending : (s : Stands (storyOf (file 3)) notFound) × (s .item .what .name ≡ 120 ∷ [])
+unfolding file nameAt
+offending =
+    let n = verdict-names (file 3) (examples .target-missing .readable) notFound (examples .missing) in
+    (n .0, sym (n .1 .the-own (inl (rw (← n .0 .the-rule) (lit< tt)))))
 
 -- what `demand3` asks of stories: places rise, and two are alike
 placed : (x : ℕ) → Placed (storyOf (inOrder x))

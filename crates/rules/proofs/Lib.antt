@@ -19,5 +19,6 @@ pub mod FileBodies
 pub mod Choices
 pub mod ChoiceExamples
 pub mod FileDemand
+pub mod NamesInFile
 pub mod Examples
 pub mod FileExamples
