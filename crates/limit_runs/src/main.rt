@@ -1,6 +1,4 @@
 // Builds stories at the limits in a buffer, checks each, and writes its line and its number of entries.
-ghost use Prim.Native.Nat.{_+_, _≤_};
-ghost use lib.ListN.{length};
 use lines::check_line;
 use validator::Answer;
 
@@ -33,9 +31,7 @@ fn print_entries(answer: Answer) {
 }
 
 // Checks a file, and writes its line and its number of entries.
-fn print_file(file: &[u8], index: &mut [u32], message: &mut [u8], out: &mut [u8])
-    requires { ⌜ length (now message) + 60 ≤ length (now out) ⌝ }
-{
+fn print_file(file: &[u8], index: &mut [u32], message: &mut [u8], out: &mut [u8]) {
     let checked = check_line(file, index, message, out);
     let answer = checked.answer;
     let end = checked.length;
@@ -52,9 +48,7 @@ fn print_lent(
     message: &mut [u8],
     bytes: usize,
     out: &mut [u8],
-)
-    requires { ⌜ length (now message) + 60 ≤ length (now out) ⌝ }
-{
+) {
     if space.len() < size {
         return;
     }
@@ -270,9 +264,7 @@ fn bytes_of(case: u8) -> usize {
 }
 
 // Builds the story of a case, checks it, and writes its line.
-fn print_case(case: u8, space: &mut [u8], index: &mut [u32], message: &mut [u8], out: &mut [u8])
-    requires { ⌜ length (now message) + 60 ≤ length (now out) ⌝ }
-{
+fn print_case(case: u8, space: &mut [u8], index: &mut [u32], message: &mut [u8], out: &mut [u8]) {
     let length = put_case(case, space);
     print_lent(
         space,
@@ -293,9 +285,7 @@ fn print_cases(
     index: &mut [u32],
     message: &mut [u8],
     out: &mut [u8],
-)
-    requires { ⌜ length (now message) + 60 ≤ length (now out) ⌝ }
-{
+) {
     let mut case = first;
     while case < end {
         print_case(case, space, index, message, out);
@@ -311,9 +301,7 @@ fn lend(
     index: &mut [u32; NUMBERS],
     message: &mut [u8],
     out: &mut [u8],
-)
-    requires { ⌜ length (now message) + 60 ≤ length (now out) ⌝ }
-{
+) {
     print_cases(first, end, space, index, message, out);
 }
 
@@ -327,9 +315,7 @@ fn run_stories(first: u8, end: u8) {
 }
 
 // Lends an array on as its bytes.
-fn lend_long(space: &mut [u8; 1048577], index: &mut [u32], message: &mut [u8], out: &mut [u8])
-    requires { ⌜ length (now message) + 60 ≤ length (now out) ⌝ }
-{
+fn lend_long(space: &mut [u8; 1048577], index: &mut [u32], message: &mut [u8], out: &mut [u8]) {
     print_cases(9, 11, space, index, message, out);
 }
 

@@ -20,7 +20,8 @@ use Rattle.validator.specs.declared.Answer.{Answer}
 use Rattle.validator.specs.Results.{resultOf}
 use Rattle.validator.specs.Check.{Report, refusing, storyReport, reportAt, reportOf}
 use Rattle.validator.specs.Checked.{Checked}
-use Rattle.lines.specs.Lines.{reportLine, inputReport, textLength, lineOf, Within}
+use Rattle.lines.specs.Lines.{reportLine, lineRoom, checkLine, inputReport, textLength, lineOf, Within}
+use Rattle.lines.proofs.Digits.{wrote-none}
 
 -- 1. A report's result tells how long its text is
 
@@ -53,7 +54,22 @@ module _ {file index message : List ℕ} {r : Answer} {index′ message′ : Lis
   unfolding overlay
   answer-line = rw (text-size, p .reported .message-is, p .reported .result, take-append-seam)
 
--- 3. The input of the program
+-- 3. The line of a check, by the length of its buffer
+
+module _ (file : List ℕ) (index message out : ℕ) where
+  pub none-written : out < lineRoom message → (buffer : List ℕ) → Wrote buffer 0 (checkLine file index message out) buffer 0
+  unfolding checkLine
+  none-written h buffer = rw (lt-ltb out (lineRoom message) h) wrote-none
+
+  pub long-out : lineRoom message ≤ out → checkLine file index message out ≡ reportLine (reportOf file index message)
+  unfolding checkLine
+  long-out h = rw (le-ltb out (lineRoom message) h)
+
+  pub line-written : lineRoom message ≤ out → {a b : List ℕ} {end : ℕ} → Wrote a 0 (reportLine (reportOf file index message)) b end
+      → Wrote a 0 (checkLine file index message out) b end
+  line-written h w = rw (long-out h) w
+
+-- 4. The input of the program
 
 module _ (input : Bytes) where
   pub long-input : 4096 < length input → inputReport input ≡ refusing 1

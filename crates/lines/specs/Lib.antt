@@ -1,2 +1,3 @@
 -- The definitions on lines.
 pub mod Lines
+pub mod Lined

@@ -47,6 +47,14 @@ resultLine (checked (breach rule place names) entries size) text = breachLine ru
 abbrev pub reportLine : Report → Bytes
 reportLine report = resultLine (report .result) (report .text)
 
+-- the room that a line wants in its buffer, by the length of the message buffer
+abbrev pub lineRoom : ℕ → ℕ
+lineRoom message = message + 60
+
+-- THE LINE of a check with buffers of these lengths: its report's; none where the line's buffer is shorter than its room
+unfoldable pub checkLine : List ℕ → ℕ → ℕ → ℕ → Bytes
+checkLine file index message out = pick (ltb out (lineRoom message)) [] (reportLine (reportOf file index message))
+
 -- what the program reports of an input: more than 4,096 bytes are refused by 1; else what a check reports with an index of 12,228 numbers and a message buffer of 640 bytes
 unfoldable pub inputReport : Bytes → Report
 inputReport input = pick (ltb 4096 (length input)) (refusing 1) (reportOf input 12228 640)

@@ -3,12 +3,10 @@ ghost use mathlib.Core.Path.{_≡_};
 ghost use Prim.Native.Nat.{_+_, _≤_};
 ghost use lib.ListN.{length};
 ghost use mathlib.Core.List.{[], _∷_};
-ghost use Rattle.records.specs.Window.{overlay};
 ghost use Rattle.messages.specs.Messages.{Wrote};
 ghost use Rattle.validator.specs.Results.{resultOf};
-ghost use Rattle.validator.specs.Check.{reportOf};
-ghost use Rattle.validator.specs.Checked.{Checked};
-ghost use Rattle.lines.specs.Lines.{digits, refusedLine, breachLine, reportLine, inputReport, inputLine, textLength, lineOf, Within};
+ghost use Rattle.lines.specs.Lines.{digits, refusedLine, breachLine, textLength, lineOf};
+ghost use Rattle.lines.specs.Lined.{CheckLined, InputLined};
 use fields::refusal_number;
 use messages::put;
 use rules::rule_number;
@@ -97,14 +95,14 @@ fn line(answer: Answer, message: &[u8], out: &mut [u8]) -> usize
     }
 }
 
-// Checks a file, and writes the line of the check's report at the buffer's start.
+// Checks a file, and writes the line of the check's report at the buffer's start; where the buffer is too short for a line, nothing.
 pub fn check_line(file: &[u8], index: &mut [u32], message: &mut [u8], out: &mut [u8]) -> CheckedLine
-    requires { ⌜ length (now message) + 60 ≤ length (now out) ⌝ }
-    ensures { λ r. ⌜ Checked (now (file .entry)) (now (index .entry)) (now (message .entry)) (r .answer) (now (index .exit)) (now (message .exit)) ⌝ }
-    ensures { λ r. ⌜ Wrote (now (out .entry)) 0 (reportLine (reportOf (now (file .entry)) (length (now (index .entry))) (length (now (message .entry))))) (now (out .exit)) (r .length) ⌝ }
-    ensures { λ r. ⌜ Within (r .length) (now (out .exit)) ⌝ }
+    ensures { λ r. ⌜ CheckLined (now (file .entry)) (now (index .entry)) (now (message .entry)) (now (out .entry)) (r .answer) (r .length) (now (index .exit)) (now (message .exit)) (now (out .exit)) ⌝ }
 {
     let answer = check(file, index, message);
+    if out.len() < message.len() + 60 {
+        return CheckedLine { answer, length: 0 };
+    }
     let length = line(answer, message, out);
     CheckedLine { answer, length }
 }
@@ -116,10 +114,7 @@ pub fn input_line(
     message: &mut [u8; 640],
     out: &mut [u8; 700],
 ) -> usize
-    ensures { λ r. ⌜ Wrote (now (out .entry)) 0 (inputLine (now (input .entry))) (now (out .exit)) r ⌝ }
-    ensures { λ _. ⌜ now (index .exit) ≡ overlay (inputReport (now (input .entry)) .numbers) (now (index .entry)) ⌝ }
-    ensures { λ _. ⌜ now (message .exit) ≡ overlay (inputReport (now (input .entry)) .text) (now (message .entry)) ⌝ }
-    ensures { λ r. ⌜ Within r (now (out .exit)) ⌝ }
+    ensures { λ r. ⌜ InputLined (now (input .entry)) (now (index .entry)) (now (message .entry)) (now (out .entry)) r (now (index .exit)) (now (message .exit)) (now (out .exit)) ⌝ }
 {
     if 4096 < input.len() {
         return refused_line(1, out);

@@ -1,5 +1,6 @@
 -- 01's numbers for each case of what reading a file answers.
 use Prim.Native.Nat.{ℕ}
+use mathlib.Core.Path.{_≡_}
 use mathlib.Core.List.{List}
 use Rattle.fields.specs.Refusals.{refusalNumber}
 use Rattle.story.specs.declared.Opened.{Opened}
@@ -19,3 +20,7 @@ readResultOf (At c) = sections (c .externals) (c .root) (c .flows) (c .end)
 -- READING a file, in numbers
 unfoldable pub readingOf : List ℕ → ReadResult
 readingOf file = readResultOf (readOf file)
+
+-- THE PROMISE of reading a file: its answer has those numbers
+abbrev pub ReadAs : List ℕ → Opened → Type 0
+ReadAs file r = readResultOf r ≡ readingOf file

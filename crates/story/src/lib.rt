@@ -2,7 +2,7 @@
 ghost use mathlib.Core.Path.{_≡_};
 ghost use Rattle.records.specs.Trace.{ends};
 ghost use Rattle.story.specs.File.{sectionsRead, InOrder};
-ghost use Rattle.story.specs.Results.{readResultOf, readingOf};
+ghost use Rattle.story.specs.Results.{ReadAs};
 ghost use Rattle.story.specs.Endings.{endOf};
 
 pub mod flows;
@@ -81,7 +81,7 @@ fn read_sections(file: &[u8], c: Sections) -> Ended
 
 // The reading pass over a whole file: its sections, or the refusal.
 pub fn read(file: &[u8]) -> Opened
-    ensures { λ r. ⌜ readResultOf r ≡ readingOf (now (file .entry)) ⌝ }
+    ensures { λ r. ⌜ ReadAs (now (file .entry)) r ⌝ }
 {
     let opened = read_trailer(file);
     match opened {

@@ -1,7 +1,5 @@
 // Replays checks from standard input, and writes for each its line, its entries, names and index, and whether the rest of the buffers stays.
 // A check is three numbers of two bytes (numbers of the index, bytes of the message buffer, bytes of the file) and the file.
-ghost use Prim.Native.Nat.{_+_, _≤_};
-ghost use lib.ListN.{length};
 use fields::word;
 use lines::check_line;
 use validator::Answer;
@@ -136,9 +134,7 @@ fn print_answer(answer: Answer, index: &[u32], message: &[u8]) {
 }
 
 // Checks a file with blank buffers, and writes all that the check gives.
-fn replay(file: &[u8], index: &mut [u32], message: &mut [u8], out: &mut [u8])
-    requires { ⌜ length (now message) + 60 ≤ length (now out) ⌝ }
-{
+fn replay(file: &[u8], index: &mut [u32], message: &mut [u8], out: &mut [u8]) {
     blank_numbers(index);
     blank_bytes(message);
     let checked = check_line(file, index, message, out);
@@ -156,9 +152,7 @@ fn replay_lent(
     index: &mut [u32],
     message: &mut [u8],
     out: &mut [u8],
-)
-    requires { ⌜ length (now message) + 60 ≤ length (now out) ⌝ }
-{
+) {
     if index.len() < numbers {
         return;
     }
@@ -169,9 +163,7 @@ fn replay_lent(
 }
 
 // Replays the checks in s, up to one that is cut short.
-fn replay_all(s: &[u8], index: &mut [u32], message: &mut [u8], out: &mut [u8])
-    requires { ⌜ length (now message) + 60 ≤ length (now out) ⌝ }
-{
+fn replay_all(s: &[u8], index: &mut [u32], message: &mut [u8], out: &mut [u8]) {
     let mut at: usize = 0;
     while at < s.len() {
         if s.len() - at < 6 {
@@ -190,9 +182,7 @@ fn replay_all(s: &[u8], index: &mut [u32], message: &mut [u8], out: &mut [u8])
 }
 
 // Replays what is on standard input.
-fn replay_input(space: &mut [u8], index: &mut [u32], message: &mut [u8], out: &mut [u8])
-    requires { ⌜ length (now message) + 60 ≤ length (now out) ⌝ }
-{
+fn replay_input(space: &mut [u8], index: &mut [u32], message: &mut [u8], out: &mut [u8]) {
     let n = io::read_full(0, space);
     replay_all(&space[..n], index, message, out);
 }
