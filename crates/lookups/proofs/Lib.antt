@@ -3,3 +3,4 @@ pub mod Meaning
 pub mod Promise
 pub mod Answers
 pub mod Impostors
+pub mod Determined

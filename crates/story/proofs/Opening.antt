@@ -1,6 +1,6 @@
 -- The file: its sections stand in order, how reading them ends, and what it answers in numbers. Assumes nothing.
 use mathlib.Core.Path.{_≡_, refl, sym, _∙_, ap}
-use mathlib.Core.List.{List, [], _∷_}
+use mathlib.Core.List.{List, []}
 use mathlib.Core.Bool.{Bool, true, false, not, _&&_, _||_}
 use Prim.Native.Nat.{ℕ, _-_}
 use native.Mathlib.Omega.{arith}
@@ -8,9 +8,9 @@ use lib.Dec.{ltb, eqb}
 use lib.ListN.{length, getD}
 use borrow.Author.Tests.{ltb-false}
 use Rattle.fields.specs.declared.Refusal.{Refusal}
-use Rattle.fields.specs.declared.Refusal.the-variants.{Length, Mark, Starts, Short, Unknown, Deep}
-use Rattle.fields.specs.Refusals.{refusalNumber}
+use Rattle.fields.specs.declared.Refusal.the-variants.{Length, Mark, Starts}
 use Rattle.fields.specs.Bytes.{pick}
+use Rattle.fields.proofs.Refusals.{byNumber, refusal-at}
 use Rattle.records.specs.Trace.{Ending, well, refused, ends}
 use Rattle.records.specs.Grammar.{nodes}
 use Rattle.story.specs.declared.Sections.{Sections}
@@ -95,26 +95,14 @@ module _ (s : List ℕ) where
 
 -- 4. In numbers
 
--- the refusal with a number, and what was answered with a result
-refusals : List Refusal
-refusals = Length ∷ Length ∷ Mark ∷ Starts ∷ Short ∷ Unknown ∷ Deep ∷ []
-
+-- what was answered with a result
 openedOfResult : ReadResult → Opened
-openedOfResult (result.refused n) = opened.Refused (getD refusals n Length)
+openedOfResult (result.refused n) = getD (byNumber opened.Refused (opened.Refused Length) []) n (opened.Refused Length)
 openedOfResult (result.sections externals root flows end) = opened.At (record { externals = externals; root = root; flows = flows; end = end })
-
-refusal-back : (r : Refusal) → getD refusals (refusalNumber r) Length ≡ r
-unfolding refusals refusalNumber
-refusal-back Length = refl
-refusal-back Mark = refl
-refusal-back Starts = refl
-refusal-back Short = refl
-refusal-back Unknown = refl
-refusal-back Deep = refl
 
 back : (o : Opened) → openedOfResult (readResultOf o) ≡ o
 unfolding openedOfResult readResultOf
-back (opened.Refused r) = ap opened.Refused (refusal-back r)
+back (opened.Refused r) = refusal-at opened.Refused (opened.Refused Length) [] r
 back (opened.At c) = refl
 
 -- the numbers tell what was answered

@@ -3,9 +3,7 @@ use mathlib.Core.Path.{_≡_, refl, sym, _∙_, ap}
 use mathlib.Core.List.{List, [], _∷_}
 use Prim.Native.Nat.{ℕ}
 use lib.ListN.{getD}
-use Rattle.fields.specs.declared.Refusal.{Refusal}
-use Rattle.fields.specs.declared.Refusal.the-variants.{Length, Mark, Starts, Short, Unknown, Deep}
-use Rattle.fields.specs.Refusals.{refusalNumber}
+use Rattle.fields.proofs.Refusals.{byNumber, refusal-at}
 use Rattle.rules.specs.declared.Rule.{Rule}
 use Rattle.rules.specs.declared.Rule.the-variants.{FunctionDivertedTo, TargetNotFound, FlowCalled, NameIsFunction, NameIsGlobal, TempIsParameter, TempIsLabel, ParameterUnmarked, ParameterAlreadyMarked, GatherRepeated, ChoiceUndiverted, FunctionWithStitches, FunctionWithChoice, FunctionWithDivert, VariableForbidden}
 use Rattle.rules.specs.Rules.{number}
@@ -13,19 +11,16 @@ use Rattle.validator.specs.declared.Answer.{Answer}
 use Rattle.validator.specs.declared.Answer.the-variants.{Accepted, Breached, Unreadable, ShortIndex, ShortMessage}
 use Rattle.validator.specs.Results.{Judged, accepted, breach, Result, refused, checked, resultOf}
 
--- the rules and the refusals by their numbers
+-- the rules by their numbers
 rules : List Rule
 rules = FunctionDivertedTo ∷ FunctionDivertedTo ∷ TargetNotFound ∷ FlowCalled ∷ NameIsFunction ∷ NameIsGlobal ∷ TempIsParameter ∷ TempIsLabel ∷ ParameterUnmarked ∷ ParameterAlreadyMarked ∷ GatherRepeated ∷ ChoiceUndiverted ∷ FunctionWithStitches ∷ FunctionWithChoice ∷ FunctionWithDivert ∷ VariableForbidden ∷ []
-
-refusals : List Answer
-refusals = ShortIndex ∷ Unreadable Length ∷ Unreadable Mark ∷ Unreadable Starts ∷ Unreadable Short ∷ Unreadable Unknown ∷ Unreadable Deep ∷ ShortIndex ∷ ShortMessage ∷ []
 
 ruleOf : ℕ → Rule
 ruleOf n = getD rules n FunctionDivertedTo
 
 -- the answer with a result
 answerOf : Result → Answer
-answerOf (refused n) = getD refusals n ShortIndex
+answerOf (refused n) = getD (byNumber Unreadable ShortIndex (ShortIndex ∷ ShortMessage ∷ [])) n ShortIndex
 answerOf (checked accepted n k) = Accepted n
 answerOf (checked (breach rule place names) n k) = Breached (record { rule = ruleOf rule; place = place; first = names .0; second = names .1; entries = n; message = k })
 
@@ -47,20 +42,11 @@ rule-back FunctionWithChoice = refl
 rule-back FunctionWithDivert = refl
 rule-back VariableForbidden = refl
 
-refusal-back : (r : Refusal) → answerOf (refused (refusalNumber r)) ≡ Unreadable r
-unfolding refusals answerOf refusalNumber
-refusal-back Length = refl
-refusal-back Mark = refl
-refusal-back Starts = refl
-refusal-back Short = refl
-refusal-back Unknown = refl
-refusal-back Deep = refl
-
 back : (a : Answer) → answerOf (resultOf a) ≡ a
-unfolding answerOf refusals resultOf
+unfolding answerOf byNumber resultOf
 back (Accepted n) = refl
 back (Breached b) = ap (λ (r : Rule). Breached (record { rule = r; place = b .place; first = b .first; second = b .second; entries = b .entries; message = b .message })) (rule-back (b .rule))
-back (Unreadable r) = refusal-back r
+back (Unreadable r) = refusal-at Unreadable ShortIndex (ShortIndex ∷ ShortMessage ∷ []) r
 back ShortIndex = refl
 back ShortMessage = refl
 
