@@ -25,7 +25,7 @@ pub record Matches (f : Bytes → Bool) (spelled : List Bytes) (k : ℕ) : Type 
   pub within : k < length spelled
   pub passes : f (getD spelled k []) ≡ true
 
--- THE MEANING of an answer to the target
+-- THE MEANING of an answer to the target: what Exact, Ending and Missing say. That the others are preferred is in the definition of the answer.
 pub record Meant (s : Story) (t : Bytes) (a : Answer) : Type 0 where
   -- Exact: the entry is spelled as the target
   pub exact-matches : (k : ℕ) → a ≡ exact k → Sought (s .flows) t × Matches (same t) (spellings s) k

@@ -4,7 +4,7 @@ use mathlib.Core.Bool.{Bool, true, false}
 use mathlib.Core.List.{List, [], _∷_, _++_, map, List·Memᴰ·head, List·Memᴰ·tail, List·Memᴰ·not-nil, List·Memᴰ·cases-cons, List·Memᴰ·append-cases, Memᴰ·append-left, Memᴰ·append-right}
 use mathlib.Core.Logic.{_⊎_, inl, inr, ⊎-elim}
 use Prim.Native.Nat.{ℕ, zero, suc, _+_}
-use native.Mathlib.Nat.{add-assoc, add-zero}
+use native.Mathlib.Nat.{add-zero}
 use native.Mathlib.Omega.{arith}
 use lib.Dec.{T, eqb}
 use lib.ListN.{getD, List·getD-map}
@@ -23,6 +23,7 @@ use Rattle.names.proofs.Means.{Means}
 use Rattle.records.specs.Trace.{Trace, done, refuse, emit, andThen, shift, Record, met, well, ends}
 use Rattle.records.specs.Grammar.{records, bodyOf, whole, tooDeep, recordOf, nodes}
 use Rattle.story.specs.Items.{inBranch}
+use Rattle.story.proofs.RecordsMet.{met-then, met-shift}
 use Rattle.story.proofs.Induction.{HandsOut, KeptOfTwo, records-hold, body-holds, Each, each-met, each-kept}
 use Rattle.story.proofs.Endings.{ends-then, ends-shift, first-well, second-well, thenEnds}
 use Rattle.bodies.proofs.Tables.{missed}
@@ -62,18 +63,6 @@ Within rs r = (q : Record) × q ∈ rs × DirectlyIn q r
 record Reaches (t u : Trace) : Type 0 where
   ends-too : ends t ≡ well → ends u ≡ well
   direct : ends t ≡ well → (b : ℕ) (r : Record) → r ∈ met b t → r ∈ met b u ⊎ Within (met b t) r
-
-met-then : (b : ℕ) (t u : Trace) → ends t ≡ well → met b (andThen t u) ≡ met b t ++ met b u
-unfolding met andThen ends
-met-then b done u e = refl
-met-then b (refuse x) u e = let z : _≡_ {A = ℕ} 0 1 = cc in absurd (omega arith)
-met-then b (emit role kind p bs t) u e = ap (λ (l : List Record). record { role = role; kind = kind; place = b + p; payload = bs } ∷ l) (met-then b t u e)
-
-met-shift : (b a : ℕ) (t : Trace) → met b (shift a t) ≡ met (b + a) t
-unfolding met shift
-met-shift b a done = refl
-met-shift b a (refuse x) = refl
-met-shift b a (emit role kind p bs t) = rw (add-assoc b a p, met-shift b a t)
 
 within-left : (a b : List Record) (r : Record) → Within a r → Within (a ++ b) r
 unfolding Within

@@ -36,7 +36,7 @@ pub record AlikeFlowBytes (f g : FlowBytes) : Type 0 where
   pub nodes : f .nodes ≡ g .nodes
   pub stitches : Paired (λ (s t : List ℕ). s ≡ t) (f .stitches) (g .stitches)
 
--- files of which both are accepted or both in breach
+-- two files alike in all but order
 pub record AlikeFiles (a b : FileBytes) : Type 0 where
   -- equal root bytes
   pub root : a .root ≡ b .root

@@ -1,4 +1,4 @@
--- Which records the steps visit, and as what, in the paper's words: by a record's role, its kind byte and its payload; and rule 11's two statements.
+-- Which records the steps visit, and as what: by the role that the grammar gives a record, its kind byte and its payload; and rule 11's two statements.
 -- Assumes nothing.
 use mathlib.Core.Path.{_≡_}
 use mathlib.Core.Logic.{_⊎_}

@@ -163,7 +163,7 @@ pub record NamedItem (file : List ℕ) (end : ℕ) (i : Item) : Type 0 where
   pub before : i .named < end
 
 module _ {file : List ℕ} {b : ℕ} {t : List ℕ} (l : Lies file b t) (good : ends (nodes t) ≡ well) where
-  record-as-file : (r : Record) → List·Memᴰ r (met b (nodes t)) → nameless (sortOf (r .role) (r .kind) (r .payload)) (r .payload) ≡ false → NamedItem file (b + length t) (itemOf r)
+  pub record-as-file : (r : Record) → List·Memᴰ r (met b (nodes t)) → nameless (sortOf (r .role) (r .kind) (r .payload)) (r .payload) ≡ false → NamedItem file (b + length t) (itemOf r)
   unfolding itemOf itemAs whatOf recordName
   record-as-file r m h =
       let sort = sortOf (r .role) (r .kind) (r .payload) in

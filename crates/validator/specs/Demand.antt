@@ -27,7 +27,8 @@ pub record Returns (Check : Checks) (file : List ℕ) (j : Judged) : Type 0 wher
   pub size : ℕ
   pub judges : resultOf answer ≡ checked j entries size
 
--- DEMAND 3, of any way of checking; nothing is supposed of it
+-- DEMAND 3, of any way of checking; nothing is supposed of it. The story of a file that cannot be read is the empty one: that no such file
+-- is judged is demand 1's.
 pub record Demand3 (Check : Checks) : Type 0 where
   -- a readable file with buffers that are long enough is judged
   pub judged : (file index message : List ℕ) (answer : Answer) (index′ message′ : List ℕ) → Check file index message answer index′ message′
