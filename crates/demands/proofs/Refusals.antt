@@ -188,6 +188,7 @@ module _ (file : List ℕ) where
           → readOf file ≡ readEnded x (opened.At (sectionsOf file)) → Unreadable file (refusalNumber r)
       by-end l m s (refused y) q f = let same : y ≡ r = cc in refusals-4-to-6 l m s (first-met s r (rw same at q))
       by-end l m s well q f = let z : _≡_ {A = ℕ} 0 1 = cc in absurd (omega arith)
+
       by-starts : (l : GoodLength file) → Marked file → (b : Bool) → ordered file ≡ b → Unreadable file (refusalNumber r)
       by-starts l m true q =
           let s = starts-told q in
@@ -195,11 +196,13 @@ module _ (file : List ℕ) where
       by-starts l m false q =
           let same : Starts ≡ r = cc (read-starts (good-length l) (good-mark l m) q) in
           rw (← same) (refusal-3 l m (λ s. let z : _≡_ {A = Bool} true false = sym (good-starts s) ∙ q in absurd (true≢false z)))
+
       by-mark : (l : GoodLength file) → (b : Bool) → marked file ≡ b → Unreadable file (refusalNumber r)
       by-mark l true q = by-starts l (mark-told l q) (ordered file) refl
       by-mark l false q =
           let same : Mark ≡ r = cc (read-mark (good-length l) q) in
           rw (← same) (refusal-2 l (λ m. absurd (true≢false (sym (good-mark l m) ∙ q))))
+
       by-length : ((badLength file ≡ true) × ((length file < 20) ⊎ (1048576 < length file))) ⊎ ((badLength file ≡ false) × GoodLength file) → Unreadable file (refusalNumber r)
       by-length (inl (q, h)) = let same : Length ≡ r = cc (read-length q) in rw (← same) (refusal-1 h)
       by-length (inr (q, l)) = by-mark l (marked file) refl
@@ -215,3 +218,18 @@ readable-exactly file = (λ r n u. let p = reads-so file u in let z : _≡_ {A =
     by-opened : (o : Opened) → readOf file ≡ o → NoneApplies file → Readable file
     by-opened (opened.At c) e h = record { sections = c; told = e }
     by-opened (opened.Refused r) e h = absurd (h (refusalNumber r) (stated-so file r e))
+
+-- the sections of a readable file are those that its trailer has
+pub sections-read : (file : List ℕ) (c : Sections) → readOf file ≡ opened.At c → c ≡ sectionsOf file
+unfolding readEnded
+sections-read file c told = by-tests (badLength file) (marked file) (ordered file) refl refl refl
+  where
+    by-end : (x : Ending) → readOf file ≡ readEnded x (opened.At (sectionsOf file)) → c ≡ sectionsOf file
+    by-end well e = cc
+    by-end (refused r) e = let z : _≡_ {A = ℕ} 0 1 = cc in absurd (omega arith)
+
+    by-tests : (a b d : Bool) → badLength file ≡ a → marked file ≡ b → ordered file ≡ d → c ≡ sectionsOf file
+    by-tests true b d p q s = let z : _≡_ {A = ℕ} 0 1 = cc (read-length file p) in absurd (omega arith)
+    by-tests false false d p q s = let z : _≡_ {A = ℕ} 0 1 = cc (read-mark file p q) in absurd (omega arith)
+    by-tests false true false p q s = let z : _≡_ {A = ℕ} 0 1 = cc (read-starts file p q s) in absurd (omega arith)
+    by-tests false true true p q s = by-end (ends (sectionsRead (sectionsOf file) file)) (read-sections file p q s)

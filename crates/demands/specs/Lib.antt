@@ -1,2 +1,3 @@
 -- What is claimed of the callable functions.
 pub mod Refusals
+pub mod Demand1

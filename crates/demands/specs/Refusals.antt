@@ -1,4 +1,4 @@
--- THE REFUSALS, 1 to 8, as statements in 01's words, each in its case and in its turn. Assumes nothing.
+-- THE REFUSALS, each in its case and in its turn: 1 to 3, 7 and 8 as statements in 01's words, 4 to 6 as the first that the grammar meets. Assumes nothing.
 use mathlib.Core.Path.{_≡_}
 use mathlib.Core.List.{List, [], _∷_}
 use mathlib.Core.Logic.{_⊎_}

@@ -242,7 +242,7 @@ examples = record { p1-to-p10 = refl; beside-them = refl; each-refusal = refl }
 
 -- OF CHECKS: where a check is lent a row's file and buffers of its lengths, it answers and leaves what the row has
 
-row-reports : (l : List Row) → map reported l ≡ map (λ (r : Row). r .report) l → (row : Row) → row ∈ l → reported row ≡ row .report
+pub row-reports : (l : List Row) → map reported l ≡ map (λ (r : Row). r .report) l → (row : Row) → row ∈ l → reported row ≡ row .report
 row-reports [] e row m = absurd (List·Memᴰ·not-nil m)
 row-reports (x ∷ xs) e row m = ⊎-elim (λ i. rw i (cc)) (row-reports xs (cc) row) (List·Memᴰ·cases-cons m)
 

@@ -152,3 +152,15 @@ impostors = record {
   flows-taken-as-read = λ index message index′ message′ n room p. let e = of-knot room p .result in let z : _≡_ {A = ℕ} 0 1 = cc in omega arith;
   invented-count = λ index message index′ message′ n h room p. let e = of-empty room p .result in h (cc);
 }
+
+-- what is reported of the files in breach with buffers of exactly the room, and of the empty story with any that are long enough
+pub lost-reported : reportOf lostDivert 21 640 .result ≡ checked (breach 2 0 (5, absent)) 0 31
+lost-reported = ap (λ (x : Report). x .result) lost-report
+
+pub knot-reported : reportOf brokenKnot 126 640 .result ≡ checked (breach 11 27 (absent, absent)) 1 61
+knot-reported = ap (λ (x : Report). x .result) knot-report
+
+pub empty-reported : {index message : List ℕ} → Room emptyStory index message → reportOf emptyStory (length index) (length message) .result ≡ checked accepted 0 0
+unfolding reportOf
+empty-reported {index} {message} room =
+    ap (λ (x : Report). x .result) (longer (readOf emptyStory) emptyStory (length index) 0 (length message) 640 (room .index-room) empty-room (room .message-room) (omega arith) ∙ empty-report)
