@@ -28,15 +28,67 @@ pub struct Decoded {
 
 type Decoding<T> = Result<T, u8>;
 
-/// The story of a readable file, or the number of the refusal.
+/// The story of a readable file with what was noted of it, or the number of the refusal.
 pub fn decode(file: &[u8]) -> Decoding<Decoded> {
-    let sections = sections(file)?;
-    let mut decoder = Decoder {
-        file,
+    let mut places = Places {
         fields: Vec::new(),
         names_are_utf8: true,
     };
-    let [globals, externals, root, flows] = sections;
+    let story = read(file, &mut places)?;
+    Ok(Decoded {
+        story,
+        fields: places.fields,
+        names_are_utf8: places.names_are_utf8,
+    })
+}
+
+/// The story of a readable file, or the number of the refusal, and nothing else.
+pub fn decode_only(file: &[u8]) -> Decoding<ParsedStory> {
+    read(file, &mut Nothing)
+}
+
+/// What is noted of a file while it is decoded.
+trait Notes {
+    /// What a byte or number at a place is.
+    fn field(&mut self, place: usize, field: Field);
+
+    /// A name's bytes and its text.
+    fn name(&mut self, bytes: &[u8], text: &str);
+}
+
+/// Notes nothing, so that decoding is all that is left.
+struct Nothing;
+
+impl Notes for Nothing {
+    /// A field.
+    fn field(&mut self, _: usize, _: Field) {}
+
+    /// A name.
+    fn name(&mut self, _: &[u8], _: &str) {}
+}
+
+/// Notes the places of all fields, and whether all names are UTF-8.
+struct Places {
+    fields: Vec<(usize, Field)>,
+    names_are_utf8: bool,
+}
+
+impl Notes for Places {
+    /// A field.
+    fn field(&mut self, place: usize, field: Field) {
+        self.fields.push((place, field));
+    }
+
+    /// A name.
+    fn name(&mut self, bytes: &[u8], text: &str) {
+        self.names_are_utf8 &= text.as_bytes() == bytes;
+    }
+}
+
+/// The story of a readable file, or the number of the refusal; notes are taken on the way.
+fn read(file: &[u8], notes: &mut impl Notes) -> Decoding<ParsedStory> {
+    let [globals, externals, root, flows] = sections(file)?;
+    let mut decoder = Decoder { file, notes };
     let globals = decoder.all(globals, Decoder::name)?;
     let globals = globals.into_iter().map(|name| GlobalVariable {
         name,
@@ -46,11 +98,7 @@ pub fn decode(file: &[u8]) -> Decoding<Decoded> {
     story.external_functions = decoder.all(externals, Decoder::name)?;
     story.root = decoder.all(root, |d, span| d.node(span, 1))?;
     story.flows = decoder.all(flows, Decoder::flow)?;
-    Ok(Decoded {
-        story,
-        fields: decoder.fields,
-        names_are_utf8: decoder.names_are_utf8,
-    })
+    Ok(story)
 }
 
 /// The four sections of a file whose length, mark and starts are right.
@@ -103,13 +151,13 @@ impl Span {
     }
 }
 
-struct Decoder<'a> {
+/// Reads the pieces of a file and has them noted.
+struct Decoder<'a, N> {
     file: &'a [u8],
-    fields: Vec<(usize, Field)>,
-    names_are_utf8: bool,
+    notes: &'a mut N,
 }
 
-impl Decoder<'_> {
+impl<N: Notes> Decoder<'_, N> {
     /// Pieces to the span's end.
     fn all<T>(
         &mut self,
@@ -126,7 +174,7 @@ impl Decoder<'_> {
     /// One byte, whose meaning is noted.
     fn byte(&mut self, span: &mut Span, field: Field) -> Decoding<u8> {
         let place = span.take(1)?.at;
-        self.fields.push((place, field));
+        self.notes.field(place, field);
         Ok(self.file[place])
     }
 
@@ -142,7 +190,7 @@ impl Decoder<'_> {
     /// A 32-bit length and the part that it counts.
     fn sized(&mut self, span: &mut Span) -> Decoding<Span> {
         let place = span.take(4)?.at;
-        self.fields.push((place, Field::Length));
+        self.notes.field(place, Field::Length);
         span.take(little_endian(&self.file[place..]))
     }
 
@@ -152,7 +200,7 @@ impl Decoder<'_> {
         let part = span.take(count.into())?;
         let bytes = &self.file[part.at..part.end];
         let text = String::from_utf8_lossy(bytes);
-        self.names_are_utf8 &= text.as_bytes() == bytes;
+        self.notes.name(bytes, &text);
         Ok(text.into_owned())
     }
 

@@ -39,8 +39,13 @@ pub fn nested(way: usize, depth: usize) -> Vec<u8> {
     nested_around(way, depth, &record(0, &[]))
 }
 
+/// Whether the innermost record of a way is a node; else it is an expression.
+pub fn nests_nodes(way: usize) -> bool {
+    (1..=4).contains(&way)
+}
+
 /// Root records around the bytes of an innermost record of this depth.
-fn nested_around(way: usize, depth: usize, innermost: &[u8]) -> Vec<u8> {
+pub fn nested_around(way: usize, depth: usize, innermost: &[u8]) -> Vec<u8> {
     let around = |wrap: fn(usize, &[u8]) -> Vec<u8>| wrapped(depth, innermost, wrap);
     match way {
         0 => around(|level, inside| record(if level == 1 { 2 } else { 3 }, inside)),

@@ -1,6 +1,7 @@
 //! A second implementation, written from the definition alone: refusals, index, steps, texts, lookup.
 
 mod index;
+mod kept;
 mod reader;
 mod search;
 mod steps;
@@ -56,6 +57,24 @@ pub fn check(file: &[u8], index: usize, message: usize) -> Answer {
 /// Why a file is not readable, or nothing where it is.
 pub fn refusal(file: &[u8]) -> Option<u8> {
     reader::read(file).err()
+}
+
+/// What reading a file gives: why it is not readable, how many records were met, and the numbers kept of them.
+#[derive(Debug, Clone, PartialEq, Eq)]
+pub struct Kept {
+    pub refusal: Option<u8>,
+    pub met: usize,
+    pub numbers: Vec<u32>,
+}
+
+/// Reads a file as far as it can be read.
+pub fn kept(file: &[u8]) -> Kept {
+    let (story, met) = reader::read_met(file);
+    Kept {
+        refusal: story.err(),
+        met: met.len(),
+        numbers: kept::numbers(&met),
+    }
 }
 
 /// All breaches that stand, in order, or the refusal (8 is not among them).

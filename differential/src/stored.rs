@@ -1,5 +1,6 @@
 //! The stored input and output of the programs that run under the gate: `reader_runs`, `vectors` and `lookup_runs`.
 
+pub mod kept;
 pub mod lookups;
 pub mod reader;
 pub mod replay;

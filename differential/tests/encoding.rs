@@ -2,7 +2,7 @@
 
 use differential::ast::{AssignMode, Condition, Expression, Node, ParsedStory};
 use differential::cases::case;
-use differential::decode::decode;
+use differential::decode::{decode, decode_only};
 use differential::encode::{EncodeError, encode};
 use differential::generate::wild;
 use differential::random::Random;
@@ -86,6 +86,15 @@ fn every_readable_file_with_utf8_names_comes_back_from_its_story() {
         }
     }
     assert!(readable > 1500, "only {readable} files were readable");
+}
+
+#[test]
+fn decoding_without_notes_gives_the_same_story_or_refusal() {
+    for number in 0..1000 {
+        let file = case(6, number).file;
+        let noted = decode(&file).map(|decoded| decoded.story);
+        assert_eq!(decode_only(&file), noted, "story {number}");
+    }
 }
 
 #[test]

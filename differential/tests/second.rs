@@ -1,6 +1,6 @@
 //! The second implementation on examples whose answers were worked out by hand.
 
-use differential::ast::ParsedStory;
+use differential::ast::{Condition, Node, ParsedStory};
 use differential::encode::encode;
 use differential::layout::{file, name, record};
 use differential::limits::file_of_length;
@@ -118,6 +118,40 @@ fn a_stitch_name_stands_at_its_count_byte() {
     let flow = knot("k", vec![]).with_stitches(vec![knot("g", vec![])]);
     let story = story(vec![], vec![flow]).with_globals(&["g"]);
     assert_eq!(breach(&story), (5, 19, [19, NONE]));
+}
+
+#[test]
+fn the_numbers_kept_have_place_sort_branch_and_label() {
+    // Conditional 0, its condition 5 with its name at 10, list length 12 to 15, choice 16 with its flag at 21 and its
+    // label at 22, list lengths 24 to 31, divert 32, the conditional's flag 39, temp 40 with its constant at 48,
+    // divert 53 with its name at 58, target 60, variable 67.
+    let test = Node::Conditional {
+        condition: Condition::FunctionCall("f".to_string()),
+        when_true: vec![choice(Some("c"), vec![divert("k")])],
+        when_false: None,
+    };
+    let arguments = vec![target("m"), variable("g")];
+    let nodes = vec![test, temp("t"), jump(3, "k", arguments)];
+    let kept = second::kept(&encode(&story(nodes, vec![])).unwrap());
+    let marked = |mark: u32, place: u32| (mark << 20) + place;
+    let expected = [
+        marked(5, 5),
+        marked(8 + 16 + 32, 16),
+        marked(2, 32),
+        marked(1, 40),
+        marked(2, 53),
+        marked(7, 60),
+    ];
+    assert_eq!(kept.numbers, expected);
+    assert_eq!((kept.refusal, kept.met), (None, 9));
+}
+
+#[test]
+fn a_record_with_a_refused_payload_is_kept() {
+    let root = [record(15, &name(b"a")), record(13, &[1]), record(15, &[0])].concat();
+    let kept = second::kept(&file(&[], &[], &root, &[]));
+    assert_eq!(kept.numbers, [(9 + 32) << 20, (1 << 20) + 7]);
+    assert_eq!((kept.refusal, kept.met), (Some(4), 2));
 }
 
 #[test]

@@ -3,7 +3,7 @@
 use differential::ast::{Condition, Expression, Node};
 use differential::encode::encode;
 use differential::second::{self, Lookup};
-use differential::stored::{self, reader, replay, whole};
+use differential::stored::{self, kept, reader, replay, whole};
 use differential::story::{nodes_mut, output, story};
 use differential::tally::title;
 use differential::vectors;
@@ -67,8 +67,42 @@ fn every_cut_and_every_refusal_is_among_the_files() {
     assert_eq!(refused, (1..=6).collect());
 }
 
+/// Sort, branch and label of each number that is kept of some files.
+fn marks<'f>(files: impl Iterator<Item = &'f Vec<u8>>) -> BTreeSet<u32> {
+    let numbers = files.flat_map(|file| second::kept(file).numbers);
+    numbers.map(|number| number >> 20).collect()
+}
+
+#[test]
+fn every_sort_is_kept_in_branches_and_elsewhere_of_readable_and_of_refused_files() {
+    let (gather, labelled) = (9 + 32, 8 + 32);
+    let nodes = [1, 2, 3, 4, 5, 8, labelled, gather];
+    let (variable, argument) = (6, 7);
+    let mut expected = BTreeSet::from([variable, argument]);
+    expected.extend(nodes);
+    expected.extend(nodes.map(|mark| mark + 16));
+    let files = reader::files();
+    let refused = |file: &&Vec<u8>| second::refusal(file).is_some();
+    assert_eq!(marks(files.iter().filter(refused)), expected);
+    assert_eq!(marks(files.iter().filter(|file| !refused(file))), expected);
+}
+
+#[test]
+fn files_have_fewer_numbers_than_are_lent_as_many_and_more() {
+    let files = reader::files();
+    let counts = files.iter().map(|file| second::kept(file).numbers.len());
+    let counts: BTreeSet<usize> = counts.collect();
+    for lent in kept::LENT {
+        assert!(
+            [lent - 1, lent, lent + 1]
+                .iter()
+                .all(|n| counts.contains(n))
+        );
+    }
+}
+
 /// A stored file of a program.
-fn kept(program: &str, name: &str) -> Vec<u8> {
+fn stored_file(program: &str, name: &str) -> Vec<u8> {
     let crates = concat!(env!("CARGO_MANIFEST_DIR"), "/../crates");
     std::fs::read(format!("{crates}/{program}/{name}")).unwrap()
 }
@@ -78,9 +112,9 @@ fn the_files_of_every_program_are_what_the_command_writes() {
     for program in stored::PROGRAMS {
         let files = stored::stored(program).unwrap();
         let said = format!("{program}: run differential/stored");
-        assert!(kept(program, "stdin") == files.input, "{said}");
+        assert!(stored_file(program, "stdin") == files.input, "{said}");
         if let Some(output) = files.output {
-            assert!(kept(program, "stdout") == output, "{said}");
+            assert!(stored_file(program, "stdout") == output, "{said}");
         }
     }
 }
@@ -89,7 +123,7 @@ fn the_files_of_every_program_are_what_the_command_writes() {
 fn the_input_of_every_program_fits_its_buffers() {
     assert_eq!(INPUT_BUFFERS.map(|(program, _)| program), stored::PROGRAMS);
     for (program, buffer) in INPUT_BUFFERS {
-        assert!(kept(program, "stdin").len() < buffer, "{program}");
+        assert!(stored_file(program, "stdin").len() < buffer, "{program}");
     }
     for lookup in vectors::lookups() {
         let lengths = [lookup.input.len(), lookup.target.len(), lookup.index];
@@ -139,7 +173,7 @@ fn allowed(found: &str, expected: &Result<Lookup, u8>) -> bool {
 
 #[test]
 fn every_lookup_of_the_list_is_answered_as_the_list_allows() {
-    let output = String::from_utf8(kept("lookup_runs", "stdout")).unwrap();
+    let output = String::from_utf8(stored_file("lookup_runs", "stdout")).unwrap();
     let lookups = vectors::lookups();
     let listed: Vec<&str> = output.lines().filter(|l| l.contains(", listed ")).collect();
     assert_eq!(listed.len(), lookups.len());

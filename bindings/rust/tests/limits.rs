@@ -57,11 +57,17 @@ fn longest() -> (Vec<u8>, u32) {
 
 /// A readable file with one global of no bytes more, which makes it one byte longer.
 fn with_empty_global(file: &[u8]) -> Vec<u8> {
-    let mut longer = [&[0], file].concat();
+    grown(file, file.len() + 1)
+}
+
+/// A readable file with globals of no bytes before its own, which make it so long.
+fn grown(file: &[u8], length: usize) -> Vec<u8> {
+    let added = length - file.len();
+    let mut longer = [&vec![0; added], file].concat();
     for number in 1..4 {
         let place = longer.len() - TRAILER + 4 * number;
         let start = [0, 1, 2, 3].map(|byte| longer[place + byte]);
-        let start = u32::from_le_bytes(start) + 1;
+        let start = u32::from_le_bytes(start) + u32::try_from(added).unwrap();
         longer[place..place + 4].copy_from_slice(&start.to_le_bytes());
     }
     longer
@@ -211,9 +217,14 @@ fn depth_64_is_accepted_and_65_refused() {
 }
 
 #[test]
-fn calls_fit_a_stack_of_1280_kib() {
+fn calls_fit_a_stack_of_1792_kib() {
     let (longest, _) = longest();
-    let files = [negations(64), sequences(64), sequences(65), longest];
+    let mut files = vec![longest];
+    for length in [4096, 4097, 65536, 65537, LONGEST_FILE] {
+        for deep in [negations(64), sequences(64), sequences(65)] {
+            files.push(grown(&deep, length));
+        }
+    }
     let calls = move || {
         let mut validator = Validator::new();
         for file in &files {
@@ -221,7 +232,7 @@ fn calls_fit_a_stack_of_1280_kib() {
             validator.lookup_bytes(file, b"nowhere");
         }
     };
-    let thread = std::thread::Builder::new().stack_size(1280 * 1024);
+    let thread = std::thread::Builder::new().stack_size(1792 * 1024);
     thread.spawn(calls).unwrap().join().unwrap();
 }
 

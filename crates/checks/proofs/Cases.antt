@@ -10,7 +10,8 @@ use Rattle.fields.specs.Bytes.{pick}
 use Rattle.names.specs.Words.{same, any}
 use Rattle.names.specs.Reserved.{END, DONE}
 use Rattle.names.specs.Targets.{passes}
-use Rattle.story.specs.Story.{temp, divert, variable, argument, call, choice, gather, parameter, stitchName, flowStart, code, What, is, Name, Story}
+use Rattle.records.specs.Items.{temp, divert, variable, argument, call, choice, gather, parameter, stitchName, flowStart, code, What, is}
+use Rattle.story.specs.Story.{Name, Story}
 use Rattle.rules.specs.declared.Rule.the-variants.{FunctionDivertedTo, TargetNotFound, FlowCalled, NameIsFunction, TempIsParameter, TempIsLabel, ParameterUnmarked, ParameterAlreadyMarked, GatherRepeated, ChoiceUndiverted, FunctionWithStitches, FunctionWithChoice, FunctionWithDivert, VariableForbidden}
 use Rattle.rules.specs.Rules.{Known, Here, target, callPasses, broken, here, root}
 use Rattle.rules.specs.Steps.{nameItem, bracket, s1, s5, s6, s12, targets, calls, choices, temps, variableDiverts, gathers}

@@ -7,12 +7,13 @@ use lib.ListN.{length, drop}
 use Rattle.names.specs.Words.{Bytes, any, one-of}
 use Rattle.records.specs.Trace.{well, ends}
 use Rattle.story.specs.declared.Sections.{Sections}
-use Rattle.story.specs.Story.{What, Stitch, words, code}
+use Rattle.records.specs.Items.{What}
+use Rattle.story.specs.Story.{Stitch, words}
 use Rattle.story.specs.Flows.{part, countedIn, piecesIn, stitchIn, stitches}
-use Rattle.story.specs.File.{InOrder, storyIn}
-use Rattle.bodies.specs.Records.{itemFrom}
-use Rattle.bodies.specs.Bodies.{bodyIn, Range}
-use Rattle.bodies.specs.Search.{labelIn, tempIn}
+use Rattle.story.specs.File.{InOrder}
+use Rattle.records.specs.Numbers.{itemIn}
+use Rattle.items.specs.Bodies.{keptIn, Rising, keptStory}
+use Rattle.items.specs.Search.{labelIn, tempIn}
 use Rattle.symbols.specs.Index.{spellings}
 use Rattle.symbols.specs.Rows as rows
 use Rattle.tables.specs.Functions.{Functions}
@@ -22,42 +23,34 @@ use Rattle.checks.specs.declared.Slot.{Slot}
 
 -- what the item is to the rules
 abbrev pub whatAt : List ℕ → Slot → What
-whatAt file slot = itemFrom file (slot .place) (slot .tag) .what
-
--- the item's sort is the one that the file gives
-abbrev pub Sorted : List ℕ → Slot → Type 0
-Sorted file slot = slot .sort ≡ code (whatAt file slot .kind)
+whatAt file slot = itemIn file (slot .item) .what
 
 -- the names of the whole story in the file
 abbrev pub knownIn : Sections → List ℕ → Known
-knownIn c file = known (storyIn c file)
+knownIn c file = known (keptStory c file)
 
 -- a name of those that the count byte at the place counts
 abbrev pub countedAt : List ℕ → ℕ → Bytes → Bool
 countedAt file at n = one-of n (words (countedIn at (drop at file)))
 
--- a label of a stitch from the place on
-abbrev pub stitchLabel : List ℕ → ℕ → ℕ → Bytes → Bool
-stitchLabel file at end n = any (λ (t : Stitch). labelIn (t .body) n) (piecesIn stitchIn at (part at end file))
-
 -- a parameter or a temp of the flow or the stitch with these parameters and this body
-abbrev pub declaredAt : List ℕ → ℕ → ℕ → ℕ → Bytes → Bool
-declaredAt file params from to n = countedAt file params n || tempIn (bodyIn file from to) n
+abbrev pub declaredAt : List ℕ → List ℕ → ℕ → ℕ → ℕ → Bytes → Bool
+declaredAt file kept params from to n = countedAt file params n || tempIn (keptIn file kept from to) n
 
--- the names of the root, the flow or the stitch at hand
-unfoldable pub hereAt : List ℕ → ScopeView → Here
-hereAt file v = record {
+-- the names of the root, the flow or the stitch at hand: the labels are those of the knot and all its stitches, in one run
+unfoldable pub hereAt : List ℕ → List ℕ → ScopeView → Here
+hereAt file kept v = record {
   param = countedAt file (v .params);
   mark = countedAt file (v .marks);
-  label = λ n. labelIn (bodyIn file (v .body) (v .stitches)) n || stitchLabel file (v .stitches) (v .end) n;
-  forbidden = λ n. declaredAt file (v .outer) (v .body) (v .stitches) n && not (declaredAt file (v .params) (v .from) (v .to) n);
+  label = λ n. labelIn (keptIn file kept (v .body) (v .end)) n;
+  forbidden = λ n. declaredAt file kept (v .outer) (v .body) (v .stitches) n && not (declaredAt file kept (v .params) (v .from) (v .to) n);
   stitched = not (v .inner) && any (λ (t : Stitch). true) (piecesIn stitchIn (v .stitches) (part (v .stitches) (v .end) file));
 }
 
 -- the sections stand in order, the index's first entries spell the story's names, and the table has its functions
 pub record Ready (file : List ℕ) (c : Sections) (index : List ℕ) (count : ℕ) (functions : List ℕ) : Type 0 where
   pub sections : InOrder c file
-  pub spelled : rows.spellingsIn file count index ≡ spellings (storyIn c file)
+  pub spelled : rows.spellingsIn file count index ≡ spellings (keptStory c file)
   pub functions-known : Functions file c functions
 
 -- the stitches from the place on to the end lie within the file and can be read
@@ -67,11 +60,10 @@ pub record StitchesReady (file : List ℕ) (at end : ℕ) : Type 0 where
   pub short : length file ≤ 1048576
   pub good : ends (stitches (part at end file)) ≡ well
 
--- the parts of the flow or the stitch, and those of its knot, lie within the file, and the stitches can be read
-pub record ScopeReady (file : List ℕ) (v : ScopeView) : Type 0 where
+-- the names of the flow or the stitch, and those of its knot, stand within the file, and the places of the kept numbers rise
+pub record ScopeReady (file kept : List ℕ) (v : ScopeView) : Type 0 where
   pub params : v .params ≤ length file
   pub marks : v .marks ≤ length file
-  pub body : Range file (v .from) (v .to)
   pub outer : v .outer ≤ length file
-  pub knot : Range file (v .body) (v .stitches)
-  pub stitches : StitchesReady file (v .stitches) (v .end)
+  pub ordered : v .from ≤ v .to
+  pub rising : Rising kept

@@ -4,7 +4,7 @@ use mathlib.Core.Bool.{Bool}
 use Rattle.fields.specs.Bytes.{pick}
 use Rattle.names.specs.Words.{Bytes}
 use Rattle.names.specs.Targets.{passes}
-use Rattle.story.specs.Story.{What}
+use Rattle.records.specs.Items.{What}
 use Rattle.rules.specs.declared.Rule.{Rule}
 use Rattle.rules.specs.declared.Rule.the-variants.{FunctionDivertedTo, TargetNotFound, FlowCalled, NameIsFunction, NameIsGlobal, TempIsParameter, TempIsLabel, ParameterUnmarked, ParameterAlreadyMarked}
 use Rattle.rules.specs.Rules.{Known, Here, callPasses, broken}

@@ -1,16 +1,18 @@
 // Targets, calls and variable diverts: rules 1, 2, 3, 8 and 9 (diverts.rs).
 ghost use mathlib.Core.Path.{_≡_};
 ghost use mathlib.Core.List.{List};
-ghost use Rattle.story.specs.Story.{What};
+ghost use Prim.Native.Nat.{ℕ, _≤_};
+ghost use lib.ListN.{length};
+ghost use Rattle.records.specs.Items.{What};
 ghost use Rattle.story.specs.File.{InOrder};
+ghost use Rattle.records.specs.Numbers.{itemIn};
 ghost use Rattle.rules.specs.Rules.{Known, Here};
 ghost use Rattle.rules.specs.Steps.{targets, calls, variableDiverts};
 ghost use Rattle.tables.specs.Functions.{Functions};
 ghost use Rattle.checks.specs.Judged.{judgedBy, targetJudged, callJudged, variableDivertJudged, argumentJudged};
-ghost use Rattle.checks.specs.Context.{Ready, ScopeReady, Sorted, knownIn, hereAt, whatAt};
+ghost use Rattle.checks.specs.Context.{Ready, knownIn, hereAt};
 use crate::Judged;
 use crate::ScopeView;
-use crate::Slot;
 use crate::known::is_external;
 use crate::known::is_flow;
 use crate::known::is_function;
@@ -19,9 +21,9 @@ use crate::parameters::is_marked;
 use crate::parameters::is_parameter;
 use crate::structure::has_target;
 use crate::structure::is_sort;
-use bodies::items::ARGUMENT;
-use bodies::items::CALL;
-use bodies::items::item_name;
+use items::items::ARGUMENT;
+use items::items::CALL;
+use items::items::item_name;
 use names::is_builtin_function;
 use names::passes;
 use rules::Rule;
@@ -60,13 +62,12 @@ pub fn validate_node_divert(
     count: usize,
     functions: &[u32],
     hints: &[u32],
-    slot: Slot,
+    item: u32,
 ) -> Judged
     requires { ⌜ Ready (now file) c (now index) count (now functions) ⌝ }
-    requires { ⌜ Sorted (now file) slot ⌝ }
-    ensures { λ r. ⌜ ((h : Here) (before : List What) → r ≡ judgedBy (knownIn c (now (file .entry))) h targets before (whatAt (now (file .entry)) slot)) ⌝ }
+    ensures { λ r. ⌜ ((h : Here) (before : List What) → r ≡ judgedBy (knownIn c (now (file .entry))) h targets before (itemIn (now (file .entry)) item .what)) ⌝ }
 {
-    if has_target(file, slot) {
+    if has_target(item) {
         return check_target(
             file,
             c,
@@ -74,7 +75,7 @@ pub fn validate_node_divert(
             count,
             functions,
             hints,
-            item_name(file, slot.place, slot.tag),
+            item_name(file, item),
         );
     }
     Judged::Fine
@@ -106,28 +107,22 @@ pub fn validate_node_function_calls(
     file: &[u8],
     c: Sections,
     functions: &[u32],
-    slot: Slot,
+    item: u32,
 ) -> Judged
     requires { ⌜ InOrder c (now file) ⌝ }
     requires { ⌜ Functions (now file) c (now functions) ⌝ }
-    requires { ⌜ Sorted (now file) slot ⌝ }
-    ensures { λ r. ⌜ ((h : Here) (before : List What) → r ≡ judgedBy (knownIn c (now (file .entry))) h calls before (whatAt (now (file .entry)) slot)) ⌝ }
+    ensures { λ r. ⌜ ((h : Here) (before : List What) → r ≡ judgedBy (knownIn c (now (file .entry))) h calls before (itemIn (now (file .entry)) item .what)) ⌝ }
 {
-    if is_sort(file, slot, CALL) {
-        return check_function_call_target(
-            file,
-            c,
-            functions,
-            item_name(file, slot.place, slot.tag),
-        );
+    if is_sort(item, CALL) {
+        return check_function_call_target(file, c, functions, item_name(file, item));
     }
     Judged::Fine
 }
 
 // A target that may be a parameter: rule 8.
 fn check_variable_divert_target(file: &[u8], scope: ScopeView, target: &[u8]) -> Judged
-    requires { ⌜ ScopeReady (now file) scope ⌝ }
-    ensures { λ r. ⌜ r ≡ variableDivertJudged (hereAt (now (file .entry)) scope) (now (target .entry)) ⌝ }
+    requires { ⌜ (scope .params ≤ length (now file)) × (scope .marks ≤ length (now file)) ⌝ }
+    ensures { λ r. ⌜ ((kept : List ℕ) → r ≡ variableDivertJudged (hereAt (now (file .entry)) kept scope) (now (target .entry))) ⌝ }
 {
     if is_parameter(file, scope, target) {
         if is_marked(file, scope, target) {
@@ -140,8 +135,8 @@ fn check_variable_divert_target(file: &[u8], scope: ScopeView, target: &[u8]) ->
 
 // An argument that may be a DivertTarget of a divert parameter: rule 9.
 fn check_divert_target_arg(file: &[u8], scope: ScopeView, name: &[u8]) -> Judged
-    requires { ⌜ ScopeReady (now file) scope ⌝ }
-    ensures { λ r. ⌜ r ≡ argumentJudged (hereAt (now (file .entry)) scope) (now (name .entry)) ⌝ }
+    requires { ⌜ scope .marks ≤ length (now file) ⌝ }
+    ensures { λ r. ⌜ ((kept : List ℕ) → r ≡ argumentJudged (hereAt (now (file .entry)) kept scope) (now (name .entry))) ⌝ }
 {
     if is_marked(file, scope, name) {
         return Judged::Broken(Rule::ParameterAlreadyMarked);
@@ -150,16 +145,15 @@ fn check_divert_target_arg(file: &[u8], scope: ScopeView, name: &[u8]) -> Judged
 }
 
 // The target or the argument of an item: rules 8 and 9.
-pub fn validate_node_variable_divert_target(file: &[u8], scope: ScopeView, slot: Slot) -> Judged
-    requires { ⌜ ScopeReady (now file) scope ⌝ }
-    requires { ⌜ Sorted (now file) slot ⌝ }
-    ensures { λ r. ⌜ ((k : Known) (before : List What) → r ≡ judgedBy k (hereAt (now (file .entry)) scope) variableDiverts before (whatAt (now (file .entry)) slot)) ⌝ }
+pub fn validate_node_variable_divert_target(file: &[u8], scope: ScopeView, item: u32) -> Judged
+    requires { ⌜ (scope .params ≤ length (now file)) × (scope .marks ≤ length (now file)) ⌝ }
+    ensures { λ r. ⌜ ((k : Known) (kept : List ℕ) (before : List What) → r ≡ judgedBy k (hereAt (now (file .entry)) kept scope) variableDiverts before (itemIn (now (file .entry)) item .what)) ⌝ }
 {
-    if has_target(file, slot) {
-        return check_variable_divert_target(file, scope, item_name(file, slot.place, slot.tag));
+    if has_target(item) {
+        return check_variable_divert_target(file, scope, item_name(file, item));
     }
-    if is_sort(file, slot, ARGUMENT) {
-        return check_divert_target_arg(file, scope, item_name(file, slot.place, slot.tag));
+    if is_sort(item, ARGUMENT) {
+        return check_divert_target_arg(file, scope, item_name(file, item));
     }
     Judged::Fine
 }

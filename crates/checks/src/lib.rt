@@ -29,10 +29,8 @@ pub struct ScopeView {
     pub end: usize,
 }
 
-// An item of a body: its number, the place of its kind byte, its tag, and its sort.
+// An item of a body: its number in the body, and the number kept of it.
 pub struct Slot {
     pub number: usize,
-    pub place: usize,
-    pub tag: u32,
-    pub sort: u8,
+    pub item: u32,
 }

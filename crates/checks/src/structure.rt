@@ -1,59 +1,58 @@
 // Choices, functions, parameters and stitch names: rules 4, 5 and 11 to 14 (structure.rs).
 ghost use mathlib.Core.Path.{_≡_};
 ghost use mathlib.Core.List.{List};
+ghost use Prim.Native.Nat.{ℕ};
 ghost use lib.Dec.{eqb};
-ghost use Rattle.story.specs.Story.{What, code};
+ghost use Rattle.records.specs.Items.{What, code};
 ghost use Rattle.story.specs.File.{InOrder};
+ghost use Rattle.records.specs.Numbers.{itemIn};
 ghost use Rattle.rules.specs.Rules.{Known, Here, target};
 ghost use Rattle.rules.specs.Steps.{bracket, Step, choices};
 ghost use Rattle.tables.specs.Functions.{Functions};
 ghost use Rattle.checks.specs.Judged.{judgedBy, paramJudged, stitchJudged};
-ghost use Rattle.checks.specs.Context.{Sorted, knownIn, whatAt};
+ghost use Rattle.checks.specs.Context.{knownIn};
 use crate::Judged;
-use crate::Slot;
 use crate::known::is_function;
 use crate::known::is_global;
-use bodies::items::CHOICE;
-use bodies::items::DIVERT;
-use bodies::items::THREAD;
-use bodies::items::TUNNEL;
-use bodies::items::choice_has_explicit_divert;
-use bodies::items::in_branch;
-use bodies::items::item_name;
+use items::items::CHOICE;
+use items::items::DIVERT;
+use items::items::THREAD;
+use items::items::TUNNEL;
+use items::items::choice_has_explicit_divert;
+use items::items::in_branch;
+use items::items::item_name;
+use items::items::sort_in;
 use names::is_end_or_done;
 use rules::Rule;
 use story::Sections;
 
 // The item is of the sort.
-pub fn is_sort(file: &[u8], slot: Slot, sort: u8) -> bool
-    requires { ⌜ Sorted (now file) slot ⌝ }
-    ensures { λ r. ⌜ r ≡ eqb sort (code (whatAt (now (file .entry)) slot .kind)) ⌝ }
+pub fn is_sort(item: u32, sort: u8) -> bool
+    ensures { λ r. ⌜ ((file : List ℕ) → r ≡ eqb sort (code (itemIn file item .what .kind))) ⌝ }
 {
-    sort == slot.sort
+    sort == sort_in(item)
 }
 
 // The item has a target: it is a divert, a tunnel or a thread.
-pub fn has_target(file: &[u8], slot: Slot) -> bool
-    requires { ⌜ Sorted (now file) slot ⌝ }
-    ensures { λ r. ⌜ r ≡ target (whatAt (now (file .entry)) slot) ⌝ }
+pub fn has_target(item: u32) -> bool
+    ensures { λ r. ⌜ ((file : List ℕ) → r ≡ target (itemIn file item .what)) ⌝ }
 {
-    if is_sort(file, slot, DIVERT) {
+    if is_sort(item, DIVERT) {
         return true;
     }
-    if is_sort(file, slot, TUNNEL) {
+    if is_sort(item, TUNNEL) {
         return true;
     }
-    is_sort(file, slot, THREAD)
+    is_sort(item, THREAD)
 }
 
 // A choice directly in a branch that does not leave it: rule 11.
-pub fn check_no_direct_choice_in_branch(file: &[u8], slot: Slot) -> Judged
-    requires { ⌜ Sorted (now file) slot ⌝ }
-    ensures { λ r. ⌜ ((k : Known) (h : Here) (before : List What) → r ≡ judgedBy k h choices before (whatAt (now (file .entry)) slot)) ⌝ }
+pub fn check_no_direct_choice_in_branch(file: &[u8], item: u32) -> Judged
+    ensures { λ r. ⌜ ((k : Known) (h : Here) (before : List What) → r ≡ judgedBy k h choices before (itemIn (now (file .entry)) item .what)) ⌝ }
 {
-    if is_sort(file, slot, CHOICE) {
-        if in_branch(slot.tag) {
-            if choice_has_explicit_divert(file, slot.place, slot.tag) {
+    if is_sort(item, CHOICE) {
+        if in_branch(item) {
+            if choice_has_explicit_divert(file, item) {
                 return Judged::Fine;
             }
             return Judged::Broken(Rule::ChoiceUndiverted);
@@ -63,15 +62,14 @@ pub fn check_no_direct_choice_in_branch(file: &[u8], slot: Slot) -> Judged
 }
 
 // A choice, or a divert to neither END nor DONE, in a function: rules 13 and 14.
-pub fn check_function_body_purity(file: &[u8], slot: Slot) -> Judged
-    requires { ⌜ Sorted (now file) slot ⌝ }
-    ensures { λ r. ⌜ ((k : Known) (h : Here) (before : List What) → r ≡ judgedBy k h (bracket Step.s5) before (whatAt (now (file .entry)) slot)) ⌝ }
+pub fn check_function_body_purity(file: &[u8], item: u32) -> Judged
+    ensures { λ r. ⌜ ((k : Known) (h : Here) (before : List What) → r ≡ judgedBy k h (bracket Step.s5) before (itemIn (now (file .entry)) item .what)) ⌝ }
 {
-    if is_sort(file, slot, CHOICE) {
+    if is_sort(item, CHOICE) {
         return Judged::Broken(Rule::FunctionWithChoice);
     }
-    if is_sort(file, slot, DIVERT) {
-        if is_end_or_done(item_name(file, slot.place, slot.tag)) {
+    if is_sort(item, DIVERT) {
+        if is_end_or_done(item_name(file, item)) {
             return Judged::Fine;
         }
         return Judged::Broken(Rule::FunctionWithDivert);

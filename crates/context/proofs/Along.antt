@@ -3,7 +3,8 @@ use mathlib.Core.Path.{_≡_, refl, ap}
 use mathlib.Core.List.{List, [], _∷_, _++_}
 use Prim.Native.Nat.{ℕ}
 use Rattle.fields.specs.Bytes.{pick}
-use Rattle.story.specs.Story.{What, Item, Story, Name, flowStart}
+use Rattle.records.specs.Items.{What, Item, flowStart}
+use Rattle.story.specs.Story.{Story, Name}
 use Rattle.rules.specs.declared.Rule.{Rule}
 use Rattle.rules.specs.declared.Rule.the-variants.{FunctionWithStitches}
 use Rattle.rules.specs.Rules.{Known, Here, known, here, Scope, root, stitched}

@@ -5,23 +5,17 @@ use mathlib.Core.List.{List, [], _∷_, _++_}
 use Prim.Native.Nat.{ℕ, zero, suc, _+_, _-_, _≤_, _<_}
 use native.Mathlib.Numerals.{add-one, sub-one}
 use native.Mathlib.Omega.{arith}
-use lib.ListN.{length, take, drop}
-use Rattle.story.specs.declared.Sections.{Sections}
-use Rattle.story.specs.Story.{Kind, plain, temp, divert, tunnel, thread, call, variable, argument, choice, gather, parameter, stitchName, flowStart, code, What, Item, whats}
-use Rattle.bodies.specs.Records.{itemFrom}
-use Rattle.bodies.specs.Bodies.{bodyIn}
-use Rattle.rules.specs.Rules.{Known, Here, broken}
+use lib.ListN.{length, take, drop, drop-of-length-le}
+use Rattle.records.specs.Items.{What, Item}
+use Rattle.story.specs.Story.{whats}
+use Rattle.rules.specs.Rules.{Known, Here}
 use Rattle.checks.specs.declared.Judged.{Judged}
 use Rattle.checks.specs.declared.Judged.the-variants as judged
-use Rattle.checks.specs.declared.ScopeView.{ScopeView}
-use Rattle.checks.specs.Judged.{firstBroken, judgedBy}
-use Rattle.checks.specs.Context.{knownIn, hereAt}
+use Rattle.checks.specs.Judged.{judgedBy}
 use Rattle.context.specs.declared.Found.the-variants as found
 use Rattle.context.specs.declared.Pass.{Pass}
-use Rattle.context.specs.declared.Pass.the-variants as pass
 use Rattle.context.specs.Found.{orElse, foundAt, foundAlong, foundPasses, rulesOf, passAt, passesFrom, isFine, clearAt, clearAlong}
-use Rattle.context.specs.Scopes.{passesClear}
-use Rattle.context.proofs.Walks.{taken, past-all}
+use Rattle.context.proofs.Walks.{taken}
 
 -- 1. Passes one after the other at an item
 
@@ -51,60 +45,26 @@ module _ (k : Known) (h : Here) (before : List What) (w : What) where
       pub passing-broken : {r : _} → j ≡ judged.Broken r → false ≡ clearAt k h (passesFrom first many) before w
       passing-broken f = sym (passing .rest ∙ step pass left l ∙ rw (← q, ← e, f))
 
--- a plain item breaks nothing
-plain-kind : (a : Kind) → 0 ≡ code a → a ≡ plain
-plain-kind plain e = refl
-plain-kind temp e = absurd (omega (arith, e))
-plain-kind divert e = absurd (omega (arith, e))
-plain-kind tunnel e = absurd (omega (arith, e))
-plain-kind thread e = absurd (omega (arith, e))
-plain-kind call e = absurd (omega (arith, e))
-plain-kind variable e = absurd (omega (arith, e))
-plain-kind argument e = absurd (omega (arith, e))
-plain-kind choice e = absurd (omega (arith, e))
-plain-kind gather e = absurd (omega (arith, e))
-plain-kind parameter e = absurd (omega (arith, e))
-plain-kind stitchName e = absurd (omega (arith, e))
-plain-kind flowStart e = absurd (omega (arith, e))
-
-plain-judged : (k : Known) (h : Here) (before : List What) (w : What) → w .kind ≡ plain → (p : Pass) → judgedBy k h (rulesOf p) before w ≡ judged.Fine
-unfolding rulesOf judgedBy firstBroken broken
-plain-judged k h before w e pass.Temps = rw e
-plain-judged k h before w e pass.Targets = rw e
-plain-judged k h before w e pass.Calls = rw e
-plain-judged k h before w e pass.Choices = rw e
-plain-judged k h before w e pass.VariableDiverts = rw e
-plain-judged k h before w e pass.Variables = rw e
-plain-judged k h before w e pass.Gathers = rw e
-plain-judged k h before w e pass.Purity = rw e
-
-pub plain-clear : (k : Known) (h : Here) (before : List What) (w : What) → 0 ≡ code (w .kind) → (ps : List Pass) → true ≡ clearAt k h ps before w
-unfolding clearAt
-plain-clear k h before w e [] = refl
-plain-clear k h before w e (p ∷ ps) = rw (plain-judged k h before w (plain-kind (w .kind) e) p) (plain-clear k h before w e ps)
-
 -- 2. Items one after the other
 
 -- nothing is broken before item number i
-pub record Unbroken (file : List ℕ) (c : Sections) (v : ScopeView) (ps : List Pass) (i : ℕ) : Type 0 where
-  pub rest : passesClear file c v ps
-      ≡ clearAlong (knownIn c file) (hereAt file v) ps (take i (whats (bodyIn file (v .from) (v .to)))) (drop i (bodyIn file (v .from) (v .to)))
+pub record Unbroken (k : Known) (h : Here) (ps : List Pass) (body : List Item) (i : ℕ) : Type 0 where
+  pub rest : clearAlong k h ps [] body ≡ clearAlong k h ps (take i (whats body)) (drop i body)
 
-pub unbroken-start : (file : List ℕ) (c : Sections) (v : ScopeView) (ps : List Pass) → Unbroken file c v ps 0
-unbroken-start file c v ps = record { rest = refl }
+pub unbroken-start : (k : Known) (h : Here) (ps : List Pass) (body : List Item) → Unbroken k h ps body 0
+unbroken-start k h ps body = record { rest = refl }
 
-module _ {file : List ℕ} {c : Sections} {v : ScopeView} {ps : List Pass} {i : ℕ} (unbroken : Unbroken file c v ps i) where
-  pub unbroken-end : {items : ℕ} → items ≡ length (bodyIn file (v .from) (v .to)) → items ≤ i → true ≡ passesClear file c v ps
+module _ {k : Known} {h : Here} {ps : List Pass} {body : List Item} {i : ℕ} (unbroken : Unbroken k h ps body i) where
+  pub unbroken-end : length body ≤ i → true ≡ clearAlong k h ps [] body
   unfolding clearAlong
-  unbroken-end e l = sym (unbroken .rest ∙ rw (past-all (bodyIn file (v .from) (v .to)) i (omega arith)))
+  unbroken-end l = sym (unbroken .rest ∙ rw (drop-of-length-le body l))
 
-  module _ (place tag : ℕ) (there : drop i (bodyIn file (v .from) (v .to)) ≡ itemFrom file place tag ∷ drop (i + 1) (bodyIn file (v .from) (v .to)))
-      {b : Bool} (e : b ≡ clearAt (knownIn c file) (hereAt file v) ps (take i (whats (bodyIn file (v .from) (v .to)))) (itemFrom file place tag .what)) where
-    pub unbroken-next : b ≡ true → Unbroken file c v ps (i + 1)
+  module _ {x : Item} (there : drop i body ≡ x ∷ drop (i + 1) body) {b : Bool} (e : b ≡ clearAt k h ps (take i (whats body)) (x .what)) where
+    pub unbroken-next : b ≡ true → Unbroken k h ps body (i + 1)
     unfolding clearAlong
-    unbroken-next f = record { rest = unbroken .rest ∙ rw (there, add-one i, taken (bodyIn file (v .from) (v .to)) i there, ← e, f) }
+    unbroken-next f = record { rest = unbroken .rest ∙ rw (there, add-one i, taken body i there, ← e, f) }
 
-    pub unbroken-broken : b ≡ false → false ≡ passesClear file c v ps
+    pub unbroken-broken : b ≡ false → false ≡ clearAlong k h ps [] body
     unfolding clearAlong
     unbroken-broken f = sym (unbroken .rest ∙ rw (there, ← e, f))
 

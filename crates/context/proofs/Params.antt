@@ -1,31 +1,25 @@
 -- Parameters one after the other, and a stitch's name. Assumes nothing.
 use mathlib.Core.Path.{_≡_, sym, _∙_}
-use mathlib.Core.Bool.{true, false}
 use mathlib.Core.List.{List, [], _∷_}
 use Prim.Native.Nat.{ℕ, zero, suc, _+_, _-_, _≤_, _<_}
 use native.Mathlib.Numerals.{add-one, sub-one}
 use native.Mathlib.Omega.{arith}
 use lib.ListN.{length, getD, drop, length-drop}
 use lib.Seq.{drop-drop, drop-cons, getD-drop}
-use Rattle.names.specs.Words.{Bytes, any}
+use Rattle.names.specs.Words.{Bytes}
 use Rattle.names.specs.Counted.{nameAt}
 use Rattle.story.specs.declared.Sections.{Sections}
-use Rattle.story.specs.Story.{Name, parameter, stitchName, Stitch}
-use Rattle.story.specs.Flows.{namesN, countedIn, part, piecesIn, stitchIn}
+use Rattle.records.specs.Items.{parameter, stitchName}
+use Rattle.story.specs.Story.{Name}
+use Rattle.story.specs.Flows.{namesN, countedIn}
 use Rattle.story.proofs.Unfolding.{names-n-zero, names-n-none}
-use Rattle.searches.specs.declared.views.StitchView.{StitchView}
-use Rattle.searches.specs.declared.views.StitchViewRead.{StitchViewRead}
-use Rattle.searches.specs.declared.views.StitchViewRead.the-variants as stitch-read
-use Rattle.searches.specs.Views.{stitchViewOf}
-use Rattle.searches.proofs.Viewed.{stitch-viewed}
-use Rattle.searches.proofs.Readable.{no-stitch}
 use Rattle.rules.specs.declared.Rule.{Rule}
 use Rattle.rules.specs.Rules.{Here}
 use Rattle.rules.specs.Steps.{s6, s12, bracket, nameItem, namesOf}
 use Rattle.checks.specs.declared.Judged.{Judged}
 use Rattle.checks.specs.declared.Judged.the-variants as judged
 use Rattle.checks.specs.Judged.{paramJudged, stitchJudged}
-use Rattle.checks.specs.Context.{knownIn, StitchesReady}
+use Rattle.checks.specs.Context.{knownIn}
 use Rattle.checks.proofs.Cases.{params-judged, stitch-judged}
 use Rattle.context.specs.declared.BreachAt.{BreachAt}
 use Rattle.context.specs.declared.Found.the-variants as found
@@ -100,12 +94,3 @@ module _ (file : List ℕ) (c : Sections) (flow at : ℕ) {n : Bytes} (e : n ≡
   pub name-found : {r : Rule} → j ≡ judged.Broken r → {b : BreachAt} → b ≡ breachAt r at (namesOf r flow at) → found.Breach b ≡ stitchNameFound file c h flow at
   name-found g k =
       rw k (along-found (knownIn c file) h flow (bracket s12) [] (nameItem stitchName at (named file at)) [] (rw e at f ∙ sym (stitch-judged (knownIn c file) h [] at (named file at))) g)
-
--- 4. A flow has stitches
-
-module _ (file : List ℕ) (at end : ℕ) (ready : StitchesReady file at end) {r : StitchViewRead} (told : r ≡ stitchViewOf file at end) where
-  pub stitches-some : (v : StitchView) → r ≡ stitch-read.View v → true ≡ any (λ (t : Stitch). true) (piecesIn stitchIn at (part at end file))
-  stitches-some v q = rw (stitch-viewed file at end v told q)
-
-  pub stitches-none : r ≡ stitch-read.None → false ≡ any (λ (t : Stitch). true) (piecesIn stitchIn at (part at end file))
-  stitches-none q = rw (no-stitch file at end (ready .good) told q)

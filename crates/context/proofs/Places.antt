@@ -1,19 +1,18 @@
 -- The names of the root, a flow and a stitch are those at their places, and their parts lie within the file. Assumes nothing.
-use mathlib.Core.Path.{_≡_, refl, sym}
-use mathlib.Core.Bool.{Bool, true, false, not, _&&_, or-false}
-use mathlib.Core.List.{List, []}
+use mathlib.Core.Path.{_≡_, refl, sym, ap}
+use mathlib.Core.Bool.{Bool, true, false, not, _&&_}
+use mathlib.Core.List.{List, [], _∷_, map}
 use Prim.Native.Nat.{ℕ, _-_, _<_}
 use native.Mathlib.Omega.{arith}
 use lib.ListN.{length}
 use lib.Seq.{drop-length}
 use Rattle.names.specs.Words.{Bytes}
+use Rattle.names.proofs.Any.{any-map}
 use Rattle.story.specs.declared.Sections.{Sections}
-use Rattle.records.specs.Trace.{well, ends}
-use Rattle.records.specs.Grammar.{repeatN, repeat}
-use Rattle.story.specs.declared.Opened.the-variants as opened
-use Rattle.story.specs.Flows as flows
-use Rattle.story.specs.Flows.{namesN, countedIn, part, piece, piecesIn, stitchIn, flowsIn}
-use Rattle.story.specs.File.{InOrder, storyIn, readOf}
+use Rattle.story.specs.Story.{Stitch}
+use Rattle.story.specs.Plain.{stitchWithoutPlain, flowWithoutPlain, withoutPlain}
+use Rattle.story.specs.Flows.{namesN, countedIn, part, piecesIn, stitchIn}
+use Rattle.story.specs.File.{InOrder}
 use Rattle.story.proofs.Unfolding.{pieces-in-none}
 use Rattle.story.proofs.Readable.{readable}
 use Rattle.searches.specs.declared.views.FlowView.{FlowView}
@@ -22,15 +21,17 @@ use Rattle.searches.specs.declared.views.FlowViewRead.{FlowViewRead}
 use Rattle.searches.specs.declared.views.FlowViewRead.the-variants as flow-read
 use Rattle.searches.specs.declared.views.StitchViewRead.{StitchViewRead}
 use Rattle.searches.specs.declared.views.StitchViewRead.the-variants as stitch-read
-use Rattle.searches.specs.Views.{viewedFlow, viewedStitch, flowViewOf, stitchViewOf}
+use Rattle.searches.specs.Views.{flowViewOf, stitchViewOf}
 use Rattle.searches.proofs.Parts.{part-none}
 use Rattle.searches.proofs.Viewed.{FlowLaid, flow-laid, stitch-laid}
 use Rattle.searches.proofs.Readable.{flow-readable, no-flow}
-use Rattle.bodies.specs.Bodies.{Range}
+use Rattle.items.specs.Bodies.{keptStory, keptStitch, keptStitches, keptFlow, Kept, StitchesKept}
+use Rattle.items.proofs.Kept.{kept-rising, kept-flows, root-plain, flow-stitches, flow-rest, flows-plain, flow-labels, stitch-rest, stitches-plain}
 use Rattle.rules.specs.Rules.{here, root, knot, stitch}
 use Rattle.rules.proofs.Order.{same-here}
 use Rattle.checks.specs.Context.{countedAt, declaredAt, hereAt, StitchesReady, ScopeReady}
-use Rattle.context.specs.Scopes.{rootView, knotView, stitchView, FlowReady, StitchReady, FlowsReady}
+use Rattle.checks.proofs.Stitches.{stitches-none}
+use Rattle.context.specs.Scopes.{rootView, knotView, stitchView, keptFlows, FlowReady, StitchReady, FlowsReady}
 
 -- 1. The same names
 
@@ -48,88 +49,79 @@ none-counted file n = rw (drop-length file)
 none-between : (file : List ℕ) (at : ℕ) → piecesIn stitchIn at (part at at file) ≡ []
 none-between file at = rw (part-none at at file (omega arith)) (pieces-in-none stitchIn at [] (omega arith))
 
-pub root-here : (file : List ℕ) (c : Sections) → here (storyIn c file) root ≡ hereAt file (rootView c (length file))
-unfolding here hereAt storyIn
-root-here file c = same-here _ _
+pub root-here : {file : List ℕ} {c : Sections} {kept : List ℕ} → Kept file c kept → here (keptStory c file) root ≡ hereAt file kept (rootView c (length file))
+unfolding here hereAt withoutPlain
+root-here {file} {c} {kept} k = same-here _ _
     (none-counted file)
     (none-counted file)
-    (λ n. sym (rw (none-between file (c .flows)) (or-false _)))
-    (λ n. never-both (declaredAt file (length file) (c .root) (c .flows) n))
+    (λ n. rw (root-plain k))
+    (λ n. never-both (declaredAt file kept (length file) (c .root) (c .flows) n))
     (rw (none-between file (c .flows)))
 
-module _ (file : List ℕ) (c : Sections) (v : FlowView) (ready : FlowReady file v) where
-  pub knot-here : here (storyIn c file) (knot (viewedFlow file v)) ≡ hereAt file (knotView v)
+module _ (file kept : List ℕ) (c : Sections) (v : FlowView) (ready : FlowReady file kept v) where
+  pub knot-here : here (keptStory c file) (knot (keptFlow file kept v)) ≡ hereAt file kept (knotView v)
   unfolding here hereAt
   knot-here = same-here _ _
       (λ n. refl)
       (λ n. refl)
-      (λ n. rw (ready .joined))
-      (λ n. rw (ready .joined) (never-both (declaredAt file (v .params) (v .from) (v .stitches) n)))
-      refl
+      (λ n. sym (ready .labels n))
+      (λ n. rw (ready .joined) (never-both (declaredAt file kept (v .params) (v .from) (v .stitches) n)))
+      (any-map (λ (t : Stitch). true) stitchWithoutPlain (piecesIn stitchIn (v .stitches) (part (v .stitches) (v .end) file)))
 
-  pub stitch-here : (w : StitchView) → here (storyIn c file) (stitch (viewedFlow file v) (viewedStitch file w)) ≡ hereAt file (stitchView v w)
+  pub stitch-here : (w : StitchView) → here (keptStory c file) (stitch (keptFlow file kept v) (keptStitch file kept w)) ≡ hereAt file kept (stitchView v w)
   unfolding here hereAt
-  stitch-here w = same-here _ _ (λ n. refl) (λ n. refl) (λ n. rw (ready .joined)) (λ n. rw (ready .joined)) refl
+  stitch-here w = same-here _ _ (λ n. refl) (λ n. refl) (λ n. sym (ready .labels n)) (λ n. rw (ready .joined)) refl
 
 -- 2. The parts lie within the file
 
-no-stitches-good : (file : List ℕ) (at : ℕ) → ends (repeat (piece flows.stitch) (part at at file)) ≡ well
-unfolding repeat repeatN ends
-no-stitches-good file at = rw (part-none at at file (omega arith))
+pub root-ready : {file : List ℕ} {c : Sections} {kept : List ℕ} → Kept file c kept → InOrder c file → ScopeReady file kept (rootView c (length file))
+root-ready k order = record {
+  params = omega arith;
+  marks = omega arith;
+  outer = omega arith;
+  ordered = order .root;
+  rising = kept-rising k;
+}
 
-pub root-ready : (file : List ℕ) (c : Sections) → InOrder c file → ScopeReady file (rootView c (length file))
-root-ready file c order =
-    let own : Range file (c .root) (c .flows) = record { ordered = order .root; within = omega (arith, order); short = order .short } in
-    record {
-      params = omega arith;
-      marks = omega arith;
-      body = own;
-      outer = omega arith;
-      knot = own;
-      stitches = record { ordered = omega arith; within = omega (arith, order); short = order .short; good = no-stitches-good file (c .flows) };
-    }
-
-module _ (file : List ℕ) (v : FlowView) (ready : FlowReady file v) where
-  knot-range : Range file (v .from) (v .stitches)
-  knot-range = rw (ready .joined) at (ready .body)
-
-  pub knot-ready : ScopeReady file (knotView v)
+module _ (file kept : List ℕ) (v : FlowView) (ready : FlowReady file kept v) where
+  pub knot-ready : ScopeReady file kept (knotView v)
   knot-ready = record {
     params = omega (arith, ready .params);
     marks = ready .marks;
-    body = ready .body;
     outer = omega (arith, ready .params);
-    knot = knot-range;
-    stitches = ready .stitches;
+    ordered = ready .ordered;
+    rising = ready .own .rising;
   }
 
-  pub stitch-ready : (w : StitchView) → StitchReady file w → ScopeReady file (stitchView v w)
+  pub stitch-ready : (w : StitchView) → StitchReady file w → ScopeReady file kept (stitchView v w)
   stitch-ready w own = record {
     params = own .params;
     marks = own .marks;
-    body = own .body;
     outer = omega (arith, ready .params);
-    knot = knot-range;
-    stitches = ready .stitches;
+    ordered = own .ordered;
+    rising = ready .own .rising;
   }
 
 -- 3. A flow or a stitch that is seen
 
-module _ (file : List ℕ) (at end : ℕ) (ready : FlowsReady file at end) {r : FlowViewRead} (told : r ≡ flowViewOf file at end) where
-  pub flows-none : r ≡ flow-read.None → flowsIn at (part at end file) ≡ []
-  flows-none q = no-flow file at end (ready .good) told q
+module _ (file kept : List ℕ) (at end : ℕ) (ready : FlowsReady file kept at end) {r : FlowViewRead} (told : r ≡ flowViewOf file at end) where
+  pub flows-none : r ≡ flow-read.None → keptFlows file at end ≡ []
+  flows-none q = ap (map flowWithoutPlain) (no-flow file at end (ready .good) told q)
 
   module _ (v : FlowView) (q : r ≡ flow-read.View v) where
     flow-order : FlowLaid at end v
     flow-order = flow-laid file at end v told q
 
-    pub flow-seen-ready : FlowReady file v
+    pub flows-first : keptFlows file at end ≡ keptFlow file kept v ∷ keptFlows file (v .end) end
+    flows-first = flows-plain file kept at end (ready .ordered) (ready .within) (ready .short) (ready .good) (ready .own) v told q
+
+    pub flow-seen-ready : FlowReady file kept v
     flow-seen-ready =
         let o = flow-order in
         record {
           params = omega (arith, o, ready);
           marks = omega (arith, o, ready);
-          body = record { ordered = o .from; within = omega (arith, o, ready); short = ready .short };
+          ordered = o .from;
           joined = o .to;
           stitches = record {
             ordered = o .stitches;
@@ -137,31 +129,42 @@ module _ (file : List ℕ) (at end : ℕ) (ready : FlowsReady file at end) {r : 
             short = ready .short;
             good = flow-readable file at end (ready .good) told v q .own;
           };
+          own = flow-stitches file kept at end (ready .ordered) (ready .within) (ready .short) (ready .good) (ready .own) v told q;
+          labels = flow-labels file kept at end (ready .ordered) (ready .within) (ready .short) (ready .good) (ready .own) v told q;
         }
 
-    pub flows-after : FlowsReady file (v .end) end
+    pub flows-after : FlowsReady file kept (v .end) end
     flows-after = record {
       ordered = flow-order .within;
       within = ready .within;
       short = ready .short;
       good = flow-readable file at end (ready .good) told v q .rest;
+      own = flow-rest file kept at end (ready .ordered) (ready .within) (ready .short) (ready .good) (ready .own) v told q;
     }
 
     pub flows-fewer : end - v .end < end - at
     flows-fewer = let o = flow-order in omega arith
 
-pub stitch-seen-ready : (file : List ℕ) (at end : ℕ) → StitchesReady file at end → {r : StitchViewRead} → r ≡ stitchViewOf file at end → (w : StitchView) → r ≡ stitch-read.View w
-    → StitchReady file w
-stitch-seen-ready file at end ready told w q =
-    let o = stitch-laid file at end w told q in
-    record {
-      params = omega (arith, o, ready);
-      marks = omega (arith, o, ready);
-      body = record { ordered = o .from; within = omega (arith, o, ready); short = ready .short };
-    }
+module _ (file : List ℕ) (at end : ℕ) (ready : StitchesReady file at end) {r : StitchViewRead} (told : r ≡ stitchViewOf file at end) where
+  pub no-stitches : r ≡ stitch-read.None → keptStitches file at end ≡ []
+  no-stitches q = ap (map stitchWithoutPlain) (stitches-none file at end ready told q)
+
+  module _ (w : StitchView) (q : r ≡ stitch-read.View w) where
+    pub stitch-seen-ready : StitchReady file w
+    stitch-seen-ready =
+        let o = stitch-laid file at end w told q in
+        record { params = omega (arith, o, ready); marks = omega (arith, o, ready); ordered = o .from }
+
+    -- the kept numbers have it first, and then those after it
+    module _ {kept : List ℕ} (own : StitchesKept file kept at end) where
+      pub stitches-first : keptStitches file at end ≡ keptStitch file kept w ∷ keptStitches file (w .end) end
+      stitches-first = stitches-plain file kept at end (ready .ordered) (ready .within) (ready .short) (ready .good) own w told q
+
+      pub stitches-rest : StitchesKept file kept (w .end) end
+      stitches-rest = stitch-rest file kept at end (ready .ordered) (ready .within) (ready .short) (ready .good) own w told q
 
 -- a readable file's flows
-pub readable-flows : (file : List ℕ) (c : Sections) → readOf file ≡ opened.At c → FlowsReady file (c .flows) (c .end)
-readable-flows file c e =
-    let good = readable file c refl e in
-    record { ordered = good .order .flows; within = omega (arith, good .order .trailer); short = good .order .short; good = good .flows }
+pub readable-flows : {file : List ℕ} {c : Sections} {kept : List ℕ} → Kept file c kept → FlowsReady file kept (c .flows) (c .end)
+readable-flows {file} {c} k =
+    let good = readable file c refl (k .read) in
+    record { ordered = good .order .flows; within = omega (arith, good .order .trailer); short = good .order .short; good = good .flows; own = kept-flows k }

@@ -7,15 +7,19 @@ use lib.ListN.{length}
 use Rattle.fields.specs.Bytes.{pick}
 use Rattle.names.specs.Words.{any, each}
 use Rattle.story.specs.declared.Sections.{Sections}
-use Rattle.story.specs.Story.{Item, Stitch, Flow, Story, flowStart}
-use Rattle.story.specs.Flows.{part, piecesIn, stitchIn}
+use Rattle.records.specs.Items.{Item, flowStart}
+use Rattle.story.specs.Story.{Stitch, Flow, Story}
+use Rattle.story.specs.Plain.{withoutPlain}
 use Rattle.story.specs.File.{storyIn}
+use Rattle.story.proofs.Plain.{story-unlabelled}
 use Rattle.searches.specs.declared.views.FlowView.{FlowView}
 use Rattle.searches.specs.declared.views.StitchView.{StitchView}
-use Rattle.searches.specs.Views.{viewedFlow, viewedStitch}
+use Rattle.items.specs.Bodies.{keptIn, keptStory, keptStitch, keptStitches, keptFlow, Kept}
+use Rattle.items.proofs.Kept.{root-plain}
 use Rattle.rules.specs.declared.Rule.the-variants.{FunctionWithStitches}
 use Rattle.rules.specs.Rules.{Here, known, here, Scope, root, knot, stitch}
 use Rattle.rules.specs.Steps.{Step, s5, s6, s12, s19, s20, bracket, gathers, rootSteps, flowSteps, stitchSteps, Run, over, nameItem, paramItems, stitchItems, purityItems, stitchRuns, flowRuns, runs, verdict, namesOf, flowNamed}
+use Rattle.rules.proofs.Plain.{verdict-plain}
 use Rattle.checks.specs.declared.Judged.the-variants as judged
 use Rattle.checks.specs.Context.{knownIn, hereAt}
 use Rattle.context.specs.declared.BreachAt.{BreachAt}
@@ -91,74 +95,77 @@ root-passes s items = rw (root-along s items)
 
 -- 3. The root
 
-module _ (file : List ℕ) (c : Sections) {r : Found} where
-  pub root-run : r ≡ passesFound file c (rootView c (length file)) (passesFrom 0 4) → r ≡ foundRuns (storyIn c file) (over root (storyIn c file .root) rootSteps)
-  unfolding storyIn
-  root-run e = e ∙ rw (← root-here file c) (root-passes (storyIn c file) (storyIn c file .root))
+-- its items are those of its run
+root-items : {file : List ℕ} {c : Sections} {kept : List ℕ} → Kept file c kept → keptIn file kept (c .root) (c .flows) ≡ keptStory c file .root
+unfolding withoutPlain
+root-items k = root-plain k
 
-  pub root-gathers : r ≡ passesFound file c (rootView c (length file)) (passesFrom 5 1) → r ≡ foundRuns (storyIn c file) (over root (storyIn c file .root) (s20 ∷ []))
-  unfolding storyIn
-  root-gathers e = e ∙ rw (← root-here file c) (gather-passes (storyIn c file) root (storyIn c file .root) s20 refl)
+module _ {file : List ℕ} {c : Sections} {kept : List ℕ} (k : Kept file c kept) {r : Found} where
+  pub root-run : r ≡ passesFound file kept c (rootView c (length file)) (passesFrom 0 4) → r ≡ foundRuns (keptStory c file) (over root (keptStory c file .root) rootSteps)
+  root-run e = e ∙ rw (← root-here k, root-items k) (root-passes (keptStory c file) (keptStory c file .root))
+
+  pub root-gathers : r ≡ passesFound file kept c (rootView c (length file)) (passesFrom 5 1) → r ≡ foundRuns (keptStory c file) (over root (keptStory c file .root) (s20 ∷ []))
+  root-gathers e = e ∙ rw (← root-here k, root-items k) (gather-passes (keptStory c file) root (keptStory c file .root) s20 refl)
 
 -- 4. A flow
 
-module _ (file : List ℕ) (c : Sections) (v : FlowView) (ready : FlowReady file v) {r : Found} where
-  pub flow-run : r ≡ passesFound file c (knotView v) (passesFrom 0 5) → r ≡ foundRuns (storyIn c file) (over (knot (viewedFlow file v)) (viewedFlow file v .body) flowSteps)
-  flow-run e = e ∙ rw (← knot-here file c v ready) (flow-passes (storyIn c file) (knot (viewedFlow file v)) (viewedFlow file v .body))
+module _ (file kept : List ℕ) (c : Sections) (v : FlowView) (ready : FlowReady file kept v) {r : Found} where
+  pub flow-run : r ≡ passesFound file kept c (knotView v) (passesFrom 0 5) → r ≡ foundRuns (keptStory c file) (over (knot (keptFlow file kept v)) (keptFlow file kept v .body) flowSteps)
+  flow-run e = e ∙ rw (← knot-here file kept c v ready) (flow-passes (keptStory c file) (knot (keptFlow file kept v)) (keptFlow file kept v .body))
 
-  pub flow-gathers : r ≡ passesFound file c (knotView v) (passesFrom 5 1) → r ≡ foundRuns (storyIn c file) (over (knot (viewedFlow file v)) (viewedFlow file v .body) (s19 ∷ []))
-  flow-gathers e = e ∙ rw (← knot-here file c v ready) (gather-passes (storyIn c file) (knot (viewedFlow file v)) (viewedFlow file v .body) s19 refl)
+  pub flow-gathers : r ≡ passesFound file kept c (knotView v) (passesFrom 5 1) → r ≡ foundRuns (keptStory c file) (over (knot (keptFlow file kept v)) (keptFlow file kept v .body) (s19 ∷ []))
+  flow-gathers e = e ∙ rw (← knot-here file kept c v ready) (gather-passes (keptStory c file) (knot (keptFlow file kept v)) (keptFlow file kept v .body) s19 refl)
 
-  pub params-run : ((h : Here) → r ≡ paramsFound file c h (v .name) (viewedFlow file v .params))
-      → r ≡ foundRuns (storyIn c file) (over (knot (viewedFlow file v)) (paramItems (viewedFlow file v .params)) (s6 ∷ []))
+  pub params-run : ((h : Here) → r ≡ paramsFound file c h (v .name) (keptFlow file kept v .params))
+      → r ≡ foundRuns (keptStory c file) (over (knot (keptFlow file kept v)) (paramItems (keptFlow file kept v .params)) (s6 ∷ []))
   unfolding foundIn
-  params-run e = e (here (storyIn c file) (knot (viewedFlow file v))) ∙ sym (runs-one (storyIn c file) (knot (viewedFlow file v)) (paramItems (viewedFlow file v .params)) s6)
+  params-run e = e (here (keptStory c file) (knot (keptFlow file kept v))) ∙ sym (runs-one (keptStory c file) (knot (keptFlow file kept v)) (paramItems (keptFlow file kept v .params)) s6)
 
 -- 5. Step 5: nothing of a flow that is no function; rule 12 where it has stitches; else what its body has
 
 pure-items : (b : Bool) (f : Flow) → b ≡ true → purityItems b f ≡ nameItem flowStart (f .at) (f .name) ∷ f .body
 pure-items b f e = rw e
 
-module _ (file : List ℕ) (c : Sections) (v : FlowView) (ready : FlowReady file v) where
-  pub purity-skipped : v .function ≡ false → found.Clear ≡ foundRuns (storyIn c file) (over (knot (viewedFlow file v)) (purityItems (v .function) (viewedFlow file v)) (s5 ∷ []))
+module _ (file kept : List ℕ) (c : Sections) (v : FlowView) (ready : FlowReady file kept v) where
+  pub purity-skipped : v .function ≡ false → found.Clear ≡ foundRuns (keptStory c file) (over (knot (keptFlow file kept v)) (purityItems (v .function) (keptFlow file kept v)) (s5 ∷ []))
   unfolding foundRuns foundIn foundAlong over orElse
   purity-skipped f = rw f
 
   -- the flow itself, then its body
   purity-run : v .function ≡ true
-      → foundRuns (storyIn c file) (over (knot (viewedFlow file v)) (purityItems (v .function) (viewedFlow file v)) (s5 ∷ []))
-      ≡ orElse (foundAt (pick (any (λ (t : Stitch). true) (viewedFlow file v .stitches)) (judged.Broken FunctionWithStitches) judged.Fine) (v .name) (nameItem flowStart (v .at) (viewedFlow file v .name)))
-      (foundRuns (storyIn c file) (over (knot (viewedFlow file v)) (viewedFlow file v .body) (s5 ∷ [])))
+      → foundRuns (keptStory c file) (over (knot (keptFlow file kept v)) (purityItems (v .function) (keptFlow file kept v)) (s5 ∷ []))
+      ≡ orElse (foundAt (pick (any (λ (t : Stitch). true) (keptFlow file kept v .stitches)) (judged.Broken FunctionWithStitches) judged.Fine) (v .name) (nameItem flowStart (v .at) (keptFlow file kept v .name)))
+      (foundRuns (keptStory c file) (over (knot (keptFlow file kept v)) (keptFlow file kept v .body) (s5 ∷ [])))
   purity-run f =
-      rw (pure-items (v .function) (viewedFlow file v) f, runs-one (storyIn c file) (knot (viewedFlow file v)) (nameItem flowStart (v .at) (viewedFlow file v .name) ∷ viewedFlow file v .body) s5, runs-one (storyIn c file) (knot (viewedFlow file v)) (viewedFlow file v .body) s5)
-      (purity-along (storyIn c file) (knot (viewedFlow file v)) (v .at) (viewedFlow file v .name) (viewedFlow file v .body))
+      rw (pure-items (v .function) (keptFlow file kept v) f, runs-one (keptStory c file) (knot (keptFlow file kept v)) (nameItem flowStart (v .at) (keptFlow file kept v .name) ∷ keptFlow file kept v .body) s5, runs-one (keptStory c file) (knot (keptFlow file kept v)) (keptFlow file kept v .body) s5)
+      (purity-along (keptStory c file) (knot (keptFlow file kept v)) (v .at) (keptFlow file kept v .name) (keptFlow file kept v .body))
 
-  module _ (f : v .function ≡ true) {t : Bool} (e : t ≡ any (λ (t : Stitch). true) (piecesIn stitchIn (v .stitches) (part (v .stitches) (v .end) file))) where
+  module _ (f : v .function ≡ true) {t : Bool} (e : t ≡ any (λ (t : Stitch). true) (keptStitches file (v .stitches) (v .end))) where
     pub purity-stitched : t ≡ true → {b : BreachAt} → b ≡ breachAt FunctionWithStitches (v .at) (namesOf FunctionWithStitches (v .name) (v .name))
-        → found.Breach b ≡ foundRuns (storyIn c file) (over (knot (viewedFlow file v)) (purityItems (v .function) (viewedFlow file v)) (s5 ∷ []))
+        → found.Breach b ≡ foundRuns (keptStory c file) (over (knot (keptFlow file kept v)) (purityItems (v .function) (keptFlow file kept v)) (s5 ∷ []))
     unfolding orElse foundAt
     purity-stitched g k = sym (purity-run f ∙ rw (← e, g, ← k))
 
-    pub purity-body : t ≡ false → {r : Found} → r ≡ passesFound file c (knotView v) (passesFrom 12 1)
-        → r ≡ foundRuns (storyIn c file) (over (knot (viewedFlow file v)) (purityItems (v .function) (viewedFlow file v)) (s5 ∷ []))
+    pub purity-body : t ≡ false → {r : Found} → r ≡ passesFound file kept c (knotView v) (passesFrom 12 1)
+        → r ≡ foundRuns (keptStory c file) (over (knot (keptFlow file kept v)) (purityItems (v .function) (keptFlow file kept v)) (s5 ∷ []))
     unfolding orElse foundAt
     purity-body g k =
-        sym (purity-run f ∙ rw (← e, g) (sym (k ∙ rw (← knot-here file c v ready) (purity-passes (storyIn c file) (knot (viewedFlow file v)) (viewedFlow file v .body)))))
+        sym (purity-run f ∙ rw (← e, g) (sym (k ∙ rw (← knot-here file kept c v ready) (purity-passes (keptStory c file) (knot (keptFlow file kept v)) (keptFlow file kept v .body)))))
 
 -- 6. A stitch
 
-module _ (file : List ℕ) (c : Sections) (v : FlowView) (ready : FlowReady file v) (w : StitchView) where
+module _ (file kept : List ℕ) (c : Sections) (v : FlowView) (ready : FlowReady file kept v) (w : StitchView) where
   pub name-run : {r : Found} → ((h : Here) → r ≡ stitchNameFound file c h (v .name) (w .name))
-      → r ≡ foundRuns (storyIn c file) (over (stitch (viewedFlow file v) (viewedStitch file w)) (stitchItems (viewedStitch file w)) (s12 ∷ []))
+      → r ≡ foundRuns (keptStory c file) (over (stitch (keptFlow file kept v) (keptStitch file kept w)) (stitchItems (keptStitch file kept w)) (s12 ∷ []))
   unfolding foundIn
   name-run e =
-      e (here (storyIn c file) (stitch (viewedFlow file v) (viewedStitch file w)))
-      ∙ sym (runs-one (storyIn c file) (stitch (viewedFlow file v) (viewedStitch file w)) (stitchItems (viewedStitch file w)) s12)
+      e (here (keptStory c file) (stitch (keptFlow file kept v) (keptStitch file kept w)))
+      ∙ sym (runs-one (keptStory c file) (stitch (keptFlow file kept v) (keptStitch file kept w)) (stitchItems (keptStitch file kept w)) s12)
 
-  pub stitch-run : {r : Found} → r ≡ passesFound file c (stitchView v w) (passesFrom 6 6)
-      → r ≡ foundRuns (storyIn c file) (over (stitch (viewedFlow file v) (viewedStitch file w)) (viewedStitch file w .body) stitchSteps)
+  pub stitch-run : {r : Found} → r ≡ passesFound file kept c (stitchView v w) (passesFrom 6 6)
+      → r ≡ foundRuns (keptStory c file) (over (stitch (keptFlow file kept v) (keptStitch file kept w)) (keptStitch file kept w .body) stitchSteps)
   stitch-run e =
-      e ∙ rw (← stitch-here file c v ready w) (stitch-passes (storyIn c file) (stitch (viewedFlow file v) (viewedStitch file w)) (viewedStitch file w .body))
+      e ∙ rw (← stitch-here file kept c v ready w) (stitch-passes (keptStory c file) (stitch (keptFlow file kept v) (keptStitch file kept w)) (keptStitch file kept w .body))
 
 -- 7. Whole flows, and the story
 
@@ -171,75 +178,78 @@ flow-runs f =
     ap (λ (l : List Run). l ++ gathered) (append-assoc (firstRuns f) body stitches) ∙ append-assoc (firstRuns f) (body ++ stitches) gathered
 
 -- steps 5 and 6, by what step 5 finds
-module _ (file : List ℕ) (c : Sections) (v : FlowView) (ready : FlowReady file v) {q : Found}
-    (e : q ≡ foundRuns (storyIn c file) (over (knot (viewedFlow file v)) (purityItems (v .function) (viewedFlow file v)) (s5 ∷ []))) where
-  pub purity-found : {b : BreachAt} → q ≡ found.Breach b → q ≡ foundRuns (storyIn c file) (firstRuns (viewedFlow file v))
+module _ (file kept : List ℕ) (c : Sections) (v : FlowView) (ready : FlowReady file kept v) {q : Found}
+    (e : q ≡ foundRuns (keptStory c file) (over (knot (keptFlow file kept v)) (purityItems (v .function) (keptFlow file kept v)) (s5 ∷ []))) where
+  pub purity-found : {b : BreachAt} → q ≡ found.Breach b → q ≡ foundRuns (keptStory c file) (firstRuns (keptFlow file kept v))
   purity-found g =
-      let f = viewedFlow file v in
-      runs-found (storyIn c file) (over (knot f) (purityItems (f .function) f) (s5 ∷ [])) (over (knot f) (paramItems (f .params)) (s6 ∷ [])) e g
+      let f = keptFlow file kept v in
+      runs-found (keptStory c file) (over (knot f) (purityItems (f .function) f) (s5 ∷ [])) (over (knot f) (paramItems (f .params)) (s6 ∷ [])) e g
 
-  pub purity-passed : q ≡ found.Clear → {r : Found} → ((h : Here) → r ≡ paramsFound file c h (v .name) (viewedFlow file v .params))
-      → r ≡ foundRuns (storyIn c file) (firstRuns (viewedFlow file v))
+  pub purity-passed : q ≡ found.Clear → {r : Found} → ((h : Here) → r ≡ paramsFound file c h (v .name) (keptFlow file kept v .params))
+      → r ≡ foundRuns (keptStory c file) (firstRuns (keptFlow file kept v))
   purity-passed g k =
-      let f = viewedFlow file v in
-      let params = params-run file c v ready k in
-      runs-passed (storyIn c file) (over (knot f) (purityItems (f .function) f) (s5 ∷ [])) (over (knot f) (paramItems (f .params)) (s6 ∷ [])) e g params
+      let f = keptFlow file kept v in
+      let params = params-run file kept c v ready k in
+      runs-passed (keptStory c file) (over (knot f) (purityItems (f .function) f) (s5 ∷ [])) (over (knot f) (paramItems (f .params)) (s6 ∷ [])) e g params
 
 -- all steps of a flow, by what steps 5 and 6 find
-module _ (file : List ℕ) (c : Sections) (v : FlowView) {q : Found} (e : q ≡ foundRuns (storyIn c file) (firstRuns (viewedFlow file v))) where
-  pub first-found : {b : BreachAt} → q ≡ found.Breach b → q ≡ foundRuns (storyIn c file) (flowRuns (viewedFlow file v))
-  first-found g = rw (flow-runs (viewedFlow file v)) (runs-found (storyIn c file) (firstRuns (viewedFlow file v)) (laterRuns (viewedFlow file v)) e g)
+module _ (file kept : List ℕ) (c : Sections) (v : FlowView) {q : Found} (e : q ≡ foundRuns (keptStory c file) (firstRuns (keptFlow file kept v))) where
+  pub first-found : {b : BreachAt} → q ≡ found.Breach b → q ≡ foundRuns (keptStory c file) (flowRuns (keptFlow file kept v))
+  first-found g = rw (flow-runs (keptFlow file kept v)) (runs-found (keptStory c file) (firstRuns (keptFlow file kept v)) (laterRuns (keptFlow file kept v)) e g)
 
-  pub first-passed : q ≡ found.Clear → {r : Found} → r ≡ foundRuns (storyIn c file) (laterRuns (viewedFlow file v))
-      → r ≡ foundRuns (storyIn c file) (flowRuns (viewedFlow file v))
-  first-passed g k = rw (flow-runs (viewedFlow file v)) (runs-passed (storyIn c file) (firstRuns (viewedFlow file v)) (laterRuns (viewedFlow file v)) e g k)
+  pub first-passed : q ≡ found.Clear → {r : Found} → r ≡ foundRuns (keptStory c file) (laterRuns (keptFlow file kept v))
+      → r ≡ foundRuns (keptStory c file) (flowRuns (keptFlow file kept v))
+  first-passed g k = rw (flow-runs (keptFlow file kept v)) (runs-passed (keptStory c file) (firstRuns (keptFlow file kept v)) (laterRuns (keptFlow file kept v)) e g k)
 
 -- steps 7 to 19, one after the other
-module _ (file : List ℕ) (c : Sections) (v : FlowView) (ready : FlowReady file v) {q : Found} (e : q ≡ passesFound file c (knotView v) (passesFrom 0 5)) where
-  pub own-found : {b : BreachAt} → q ≡ found.Breach b → q ≡ foundRuns (storyIn c file) (laterRuns (viewedFlow file v))
+module _ (file kept : List ℕ) (c : Sections) (v : FlowView) (ready : FlowReady file kept v) {q : Found} (e : q ≡ passesFound file kept c (knotView v) (passesFrom 0 5)) where
+  pub own-found : {b : BreachAt} → q ≡ found.Breach b → q ≡ foundRuns (keptStory c file) (laterRuns (keptFlow file kept v))
   own-found g =
-      let f = viewedFlow file v in
+      let f = keptFlow file kept v in
       let body = over (knot f) (f .body) flowSteps in
       let stitches = each (stitchRuns f) (f .stitches) in
-      runs-found (storyIn c file) (body ++ stitches) (over (knot f) (f .body) (s19 ∷ []))
-      (runs-found (storyIn c file) body stitches (flow-run file c v ready e) g) g
+      runs-found (keptStory c file) (body ++ stitches) (over (knot f) (f .body) (s19 ∷ []))
+      (runs-found (keptStory c file) body stitches (flow-run file kept c v ready e) g) g
 
-  module _ (g : q ≡ found.Clear) {r : Found} (h : r ≡ foundRuns (storyIn c file) (each (stitchRuns (viewedFlow file v)) (viewedFlow file v .stitches))) where
-    own-passed : r ≡ foundRuns (storyIn c file) (over (knot (viewedFlow file v)) (viewedFlow file v .body) flowSteps ++ each (stitchRuns (viewedFlow file v)) (viewedFlow file v .stitches))
+  module _ (g : q ≡ found.Clear) {r : Found} (h : r ≡ foundRuns (keptStory c file) (each (stitchRuns (keptFlow file kept v)) (keptFlow file kept v .stitches))) where
+    own-passed : r ≡ foundRuns (keptStory c file) (over (knot (keptFlow file kept v)) (keptFlow file kept v .body) flowSteps ++ each (stitchRuns (keptFlow file kept v)) (keptFlow file kept v .stitches))
     own-passed =
-        let f = viewedFlow file v in
-        runs-passed (storyIn c file) (over (knot f) (f .body) flowSteps) (each (stitchRuns f) (f .stitches)) (flow-run file c v ready e) g h
+        let f = keptFlow file kept v in
+        runs-passed (keptStory c file) (over (knot f) (f .body) flowSteps) (each (stitchRuns f) (f .stitches)) (flow-run file kept c v ready e) g h
 
-    pub stitches-found : {b : BreachAt} → r ≡ found.Breach b → r ≡ foundRuns (storyIn c file) (laterRuns (viewedFlow file v))
+    pub stitches-found : {b : BreachAt} → r ≡ found.Breach b → r ≡ foundRuns (keptStory c file) (laterRuns (keptFlow file kept v))
     stitches-found k =
-        let f = viewedFlow file v in
-        runs-found (storyIn c file) (over (knot f) (f .body) flowSteps ++ each (stitchRuns f) (f .stitches)) (over (knot f) (f .body) (s19 ∷ [])) own-passed k
+        let f = keptFlow file kept v in
+        runs-found (keptStory c file) (over (knot f) (f .body) flowSteps ++ each (stitchRuns f) (f .stitches)) (over (knot f) (f .body) (s19 ∷ [])) own-passed k
 
-    pub stitches-passed : r ≡ found.Clear → {t : Found} → t ≡ passesFound file c (knotView v) (passesFrom 5 1)
-        → t ≡ foundRuns (storyIn c file) (laterRuns (viewedFlow file v))
+    pub stitches-passed : r ≡ found.Clear → {t : Found} → t ≡ passesFound file kept c (knotView v) (passesFrom 5 1)
+        → t ≡ foundRuns (keptStory c file) (laterRuns (keptFlow file kept v))
     stitches-passed k l =
-        let f = viewedFlow file v in
-        let gathered = flow-gathers file c v ready l in
-        runs-passed (storyIn c file) (over (knot f) (f .body) flowSteps ++ each (stitchRuns f) (f .stitches)) (over (knot f) (f .body) (s19 ∷ [])) own-passed k gathered
+        let f = keptFlow file kept v in
+        let gathered = flow-gathers file kept c v ready l in
+        runs-passed (keptStory c file) (over (knot f) (f .body) flowSteps ++ each (stitchRuns f) (f .stitches)) (over (knot f) (f .body) (s19 ∷ [])) own-passed k gathered
 
 -- where the body is clear of its own steps, what is left is what the stitches have
-module _ (file : List ℕ) (c : Sections) (v : FlowView) (ready : FlowReady file v) {b : Bool} (e : b ≡ passesClear file c (knotView v) (passesFrom 0 6)) (t : b ≡ true) where
+module _ (file kept : List ℕ) (c : Sections) (v : FlowView) (ready : FlowReady file kept v) {b : Bool} (e : b ≡ passesClear file kept c (knotView v) (passesFrom 0 6)) (t : b ≡ true) where
   body-clear : found.Clear
-      ≡ foundRuns (storyIn c file) (over (knot (viewedFlow file v)) (viewedFlow file v .body) flowSteps ++ over (knot (viewedFlow file v)) (viewedFlow file v .body) (s19 ∷ []))
+      ≡ foundRuns (keptStory c file) (over (knot (keptFlow file kept v)) (keptFlow file kept v .body) flowSteps ++ over (knot (keptFlow file kept v)) (keptFlow file kept v .body) (s19 ∷ []))
   body-clear =
-      clear-passes (knownIn c file) (hereAt file (knotView v)) (v .name) (passesFrom 0 6) (viewedFlow file v .body) (sym t ∙ e)
-      ∙ rw (← knot-here file c v ready) (body-passes (storyIn c file) (knot (viewedFlow file v)) (viewedFlow file v .body))
+      clear-passes (knownIn c file) (hereAt file kept (knotView v)) (v .name) (passesFrom 0 6) (keptFlow file kept v .body) (sym t ∙ e)
+      ∙ rw (← knot-here file kept c v ready) (body-passes (keptStory c file) (knot (keptFlow file kept v)) (keptFlow file kept v .body))
 
-  pub stitches-left : {r : Found} → r ≡ foundRuns (storyIn c file) (each (stitchRuns (viewedFlow file v)) (viewedFlow file v .stitches))
-      → r ≡ foundRuns (storyIn c file) (laterRuns (viewedFlow file v))
+  pub stitches-left : {r : Found} → r ≡ foundRuns (keptStory c file) (each (stitchRuns (keptFlow file kept v)) (keptFlow file kept v .stitches))
+      → r ≡ foundRuns (keptStory c file) (laterRuns (keptFlow file kept v))
   stitches-left g =
-      let f = viewedFlow file v in
-      runs-between (storyIn c file) (over (knot f) (f .body) flowSteps) (each (stitchRuns f) (f .stitches)) (over (knot f) (f .body) (s19 ∷ [])) body-clear g
+      let f = keptFlow file kept v in
+      runs-between (keptStory c file) (over (knot f) (f .body) flowSteps) (each (stitchRuns f) (f .stitches)) (over (knot f) (f .body) (s19 ∷ [])) body-clear g
 
 pub stitch-runs : (f : Flow) (t : Stitch) → stitchRuns f t ≡ over (stitch f t) (stitchItems t) (s12 ∷ []) ++ over (stitch f t) (t .body) stitchSteps
 unfolding stitchRuns
 stitch-runs f t = refl
 
-pub story-runs : (s : Story) → foundOf (verdict s) ≡ foundRuns s (over root (s .root) rootSteps ++ each flowRuns (s .flows) ++ over root (s .root) (s20 ∷ []))
+-- the verdict on the story is what the steps of the kept story find
+pub story-runs : (c : Sections) (file : List ℕ)
+    → foundOf (verdict (storyIn c file))
+    ≡ foundRuns (keptStory c file) (over root (keptStory c file .root) rootSteps ++ each flowRuns (keptStory c file .flows) ++ over root (keptStory c file .root) (s20 ∷ []))
 unfolding runs
-story-runs s = verdict-found s
+story-runs c file = rw (← verdict-plain (storyIn c file) (story-unlabelled c file)) (verdict-found (keptStory c file))

@@ -6,7 +6,8 @@ use Prim.Native.Nat.{ℕ, suc}
 use native.Mathlib.Omega.{arith}
 use Rattle.fields.specs.Bytes.{pick}
 use Rattle.names.specs.Words.{only, each}
-use Rattle.story.specs.Story.{What, Item, Story}
+use Rattle.records.specs.Items.{What, Item}
+use Rattle.story.specs.Story.{Story}
 use Rattle.rules.specs.declared.Rule.{Rule}
 use Rattle.rules.specs.Rules.{known, here, Scope}
 use Rattle.rules.specs.Steps.{Step, bracket, Run, over, runs, Numbered, numbered, Breach, breach, Visit, visits, breaks, inVisit, inRun, breaches, verdict, first, flowNamed}

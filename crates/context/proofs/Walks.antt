@@ -4,25 +4,23 @@ use mathlib.Core.List.{List, [], _∷_, _++_, nil≢cons}
 use Prim.Native.Nat.{ℕ, zero, suc, _+_, _-_, _≤_, _<_}
 use native.Mathlib.Numerals.{add-one, sub-one}
 use native.Mathlib.Omega.{arith}
-use lib.ListN.{length, take, drop}
-use Rattle.story.specs.declared.Sections.{Sections}
-use Rattle.story.specs.Story.{What, Item, whats}
-use Rattle.story.specs.Items.{itemOf, itemAs}
-use Rattle.bodies.specs.Records.{recordFrom, itemFrom}
-use Rattle.bodies.specs.Bodies.{bodyIn, Counted}
+use lib.ListN.{length, getD, take, drop, drop-of-length-le}
+use Rattle.records.specs.Items.{What, Item}
+use Rattle.story.specs.Story.{whats}
+use Rattle.records.specs.Numbers.{itemIn, between}
+use Rattle.items.specs.Bodies.{keptIn}
+use Rattle.items.proofs.Numbered.{items-length, item-there}
 use Rattle.rules.specs.declared.Rule.{Rule}
+use Rattle.rules.specs.Rules.{Known, Here}
 use Rattle.rules.specs.Steps.{namesOf}
 use Rattle.checks.specs.declared.Judged.{Judged}
 use Rattle.checks.specs.declared.Judged.the-variants as judged
-use Rattle.checks.specs.declared.ScopeView.{ScopeView}
 use Rattle.checks.specs.Judged.{judgedBy}
-use Rattle.checks.specs.Context.{knownIn, hereAt}
 use Rattle.context.specs.declared.BreachAt.{BreachAt}
 use Rattle.context.specs.declared.Found.{Found}
 use Rattle.context.specs.declared.Found.the-variants as found
 use Rattle.context.specs.declared.Pass.{Pass}
 use Rattle.context.specs.Found.{breachAt, orElse, foundAlong, rulesOf, passAt, passesFrom, foundPasses}
-use Rattle.context.specs.Scopes.{Held, passesFound}
 use Rattle.context.proofs.Along.{along-passed, along-found, along-none}
 
 -- 1. Items
@@ -34,86 +32,66 @@ taken [] (suc i) e = absurd (nil≢cons e)
 taken (y ∷ body) zero e = cc
 taken (y ∷ body) (suc i) e = ap (λ (l : List What). y .what ∷ l) (taken body i e)
 
-pub past-all : (body : List Item) (i : ℕ) → length body ≤ i → drop i body ≡ []
-past-all [] zero h = refl
-past-all [] (suc i) h = refl
-past-all (x ∷ body) zero h = absurd (omega arith)
-past-all (x ∷ body) (suc i) h = past-all body i (omega arith)
+-- the items of the run of a body's numbers
+module _ (file kept : List ℕ) (from to : ℕ) {items : List ℕ} (e : items ≡ between from to kept) (i : ℕ) where
+  pub run-item : i < length items → drop i (keptIn file kept from to) ≡ itemIn file (getD items i 0) ∷ drop (i + 1) (keptIn file kept from to)
+  run-item h = rw (← e) (item-there file items h)
 
-item-place : (file : List ℕ) (place tag : ℕ) → itemFrom file place tag .place ≡ place
-unfolding itemFrom itemOf itemAs recordFrom
-item-place file place tag = refl
-
--- what the rules find along the body of the root, the flow or the stitch
-abbrev pub bodyFound : List ℕ → Sections → ScopeView → List Rule → List What → List Item → Found
-bodyFound file c v rules before items = foundAlong (knownIn c file) (hereAt file v) (v .flow) rules before items
+  pub run-end : length items ≤ i → length (keptIn file kept from to) ≤ i
+  run-end h = rw (← e) (omega (arith, items-length file items))
 
 -- nothing is found before item number i
-pub record Clean (file : List ℕ) (c : Sections) (v : ScopeView) (rules : List Rule) (i : ℕ) : Type 0 where
-  pub rest : bodyFound file c v rules [] (bodyIn file (v .from) (v .to))
-      ≡ bodyFound file c v rules (take i (whats (bodyIn file (v .from) (v .to)))) (drop i (bodyIn file (v .from) (v .to)))
+pub record Clean (k : Known) (h : Here) (flow : ℕ) (rules : List Rule) (body : List Item) (i : ℕ) : Type 0 where
+  pub rest : foundAlong k h flow rules [] body ≡ foundAlong k h flow rules (take i (whats body)) (drop i body)
 
-pub clean-start : (file : List ℕ) (c : Sections) (v : ScopeView) (rules : List Rule) → Clean file c v rules 0
-clean-start file c v rules = record { rest = refl }
+pub clean-start : (k : Known) (h : Here) (flow : ℕ) (rules : List Rule) (body : List Item) → Clean k h flow rules body 0
+clean-start k h flow rules body = record { rest = refl }
 
-module _ {file : List ℕ} {c : Sections} {v : ScopeView} {rules : List Rule} {i : ℕ} (clean : Clean file c v rules i) where
-  pub clean-end : {items : ℕ} → items ≡ length (bodyIn file (v .from) (v .to)) → items ≤ i → found.Clear ≡ bodyFound file c v rules [] (bodyIn file (v .from) (v .to))
-  clean-end e h =
-      sym (clean .rest
-      ∙ rw (past-all (bodyIn file (v .from) (v .to)) i (omega arith))
-      (sym (along-none (knownIn c file) (hereAt file v) (v .flow) rules (take i (whats (bodyIn file (v .from) (v .to)))))))
+module _ {k : Known} {h : Here} {flow : ℕ} {rules : List Rule} {body : List Item} {i : ℕ} (clean : Clean k h flow rules body i) where
+  pub clean-end : length body ≤ i → found.Clear ≡ foundAlong k h flow rules [] body
+  clean-end l = sym (clean .rest ∙ rw (drop-of-length-le body l) (sym (along-none k h flow rules (take i (whats body)))))
 
-  module _ (place tag : ℕ) (there : drop i (bodyIn file (v .from) (v .to)) ≡ itemFrom file place tag ∷ drop (i + 1) (bodyIn file (v .from) (v .to)))
-      {j : Judged} (e : j ≡ judgedBy (knownIn c file) (hereAt file v) rules (take i (whats (bodyIn file (v .from) (v .to)))) (itemFrom file place tag .what)) where
-    pub clean-next : j ≡ judged.Fine → Clean file c v rules (i + 1)
+  module _ {x : Item} (there : drop i body ≡ x ∷ drop (i + 1) body) {j : Judged} (e : j ≡ judgedBy k h rules (take i (whats body)) (x .what)) where
+    pub clean-next : j ≡ judged.Fine → Clean k h flow rules body (i + 1)
     clean-next f = record {
-      rest =
-          clean .rest
-          ∙ rw (there, add-one i, taken (bodyIn file (v .from) (v .to)) i there)
-          (along-passed (knownIn c file) (hereAt file v) (v .flow) rules (take i (whats (bodyIn file (v .from) (v .to)))) (itemFrom file place tag) (drop (suc i) (bodyIn file (v .from) (v .to))) e f);
+      rest = clean .rest ∙ rw (there, add-one i, taken body i there) (along-passed k h flow rules (take i (whats body)) x (drop (suc i) body) e f);
     }
 
-    pub clean-found : {r : Rule} → j ≡ judged.Broken r → {own : ℕ} → own ≡ itemFrom file place tag .named → {b : BreachAt} → b ≡ breachAt r place (namesOf r (v .flow) own)
-        → found.Breach b ≡ bodyFound file c v rules [] (bodyIn file (v .from) (v .to))
-    clean-found {r} f {own} g {b} k =
-        let at = item-place file place tag in
+    pub clean-found : {r : Rule} → j ≡ judged.Broken r → {place own : ℕ} → place ≡ x .place → own ≡ x .named → {b : BreachAt} → b ≡ breachAt r place (namesOf r flow own)
+        → found.Breach b ≡ foundAlong k h flow rules [] body
+    clean-found {r} f {place} {own} p g {b} l =
         sym (clean .rest
         ∙ rw there
-        (sym (along-found (knownIn c file) (hereAt file v) (v .flow) rules (take i (whats (bodyIn file (v .from) (v .to)))) (itemFrom file place tag) (drop (i + 1) (bodyIn file (v .from) (v .to))) e f)
-        ∙ rw (at, ← g, ← k)))
+        (sym (along-found k h flow rules (take i (whats body)) x (drop (i + 1) body) e f)
+        ∙ rw (← p, ← g, ← l)))
 
 -- 2. Passes
 
 -- nothing is found before the passes that are left
-pub record Quiet (file : List ℕ) (c : Sections) (v : ScopeView) (first many pass left : ℕ) : Type 0 where
-  pub rest : passesFound file c v (passesFrom first many) ≡ passesFound file c v (passesFrom pass left)
+pub record Quiet (k : Known) (h : Here) (flow : ℕ) (body : List Item) (first many pass left : ℕ) : Type 0 where
+  pub rest : foundPasses k h flow (passesFrom first many) body ≡ foundPasses k h flow (passesFrom pass left) body
 
-pub quiet-start : (file : List ℕ) (c : Sections) (v : ScopeView) (first many : ℕ) → Quiet file c v first many first many
-quiet-start file c v first many = record { rest = refl }
+pub quiet-start : (k : Known) (h : Here) (flow : ℕ) (body : List Item) (first many : ℕ) → Quiet k h flow body first many first many
+quiet-start k h flow body first many = record { rest = refl }
 
 -- the first of the passes decides, or the later ones
-passes-step : (file : List ℕ) (c : Sections) (v : ScopeView) (pass left : ℕ) → 0 < left
-    → passesFound file c v (passesFrom pass left)
-    ≡ orElse (bodyFound file c v (rulesOf (passAt pass)) [] (bodyIn file (v .from) (v .to))) (passesFound file c v (passesFrom (pass + 1) (left - 1)))
+passes-step : (k : Known) (h : Here) (flow : ℕ) (body : List Item) (pass left : ℕ) → 0 < left
+    → foundPasses k h flow (passesFrom pass left) body
+    ≡ orElse (foundAlong k h flow (rulesOf (passAt pass)) [] body) (foundPasses k h flow (passesFrom (pass + 1) (left - 1)) body)
 unfolding passesFrom foundPasses
-passes-step file c v pass zero h = absurd (omega arith)
-passes-step file c v pass (suc left) h = rw (sub-one (suc left))
+passes-step k h flow body pass zero l = absurd (omega arith)
+passes-step k h flow body pass (suc left) l = rw (sub-one (suc left))
 
-module _ {file : List ℕ} {c : Sections} {v : ScopeView} {first many pass left : ℕ} (quiet : Quiet file c v first many pass left) where
-  pub quiet-end : left ≤ 0 → found.Clear ≡ passesFound file c v (passesFrom first many)
+module _ {k : Known} {h : Here} {flow : ℕ} {body : List Item} {first many pass left : ℕ} (quiet : Quiet k h flow body first many pass left) where
+  pub quiet-end : left ≤ 0 → found.Clear ≡ foundPasses k h flow (passesFrom first many) body
   unfolding passesFrom foundPasses
-  quiet-end h = let none : left ≡ 0 = omega arith in sym (quiet .rest ∙ rw none)
+  quiet-end l = let none : left ≡ 0 = omega arith in sym (quiet .rest ∙ rw none)
 
-  module _ (h : 0 < left) {p : Pass} (q : p ≡ passAt pass) {r : Found} (e : r ≡ bodyFound file c v (rulesOf p) [] (bodyIn file (v .from) (v .to))) where
-    pub quiet-found : {b : BreachAt} → r ≡ found.Breach b → r ≡ passesFound file c v (passesFrom first many)
+  module _ (l : 0 < left) {p : Pass} (q : p ≡ passAt pass) {r : Found} (e : r ≡ foundAlong k h flow (rulesOf p) [] body) where
+    pub quiet-found : {b : BreachAt} → r ≡ found.Breach b → r ≡ foundPasses k h flow (passesFrom first many) body
     unfolding orElse
-    quiet-found f = sym (quiet .rest ∙ passes-step file c v pass left h ∙ rw (← q, ← e, f))
+    quiet-found f = sym (quiet .rest ∙ passes-step k h flow body pass left l ∙ rw (← q, ← e, f))
 
-    pub quiet-next : r ≡ found.Clear → Quiet file c v first many (pass + 1) (left - 1)
+    pub quiet-next : r ≡ found.Clear → Quiet k h flow body first many (pass + 1) (left - 1)
     unfolding orElse
-    quiet-next f = record { rest = quiet .rest ∙ passes-step file c v pass left h ∙ rw (← q, ← e, f) }
-
--- 3. The batch, once the items are counted
-
-pub held-first : (v : ScopeView) {file before : List ℕ} {n : ℕ} {after : List ℕ} → Counted file (v .from) (v .to) before n after → 2 ≤ length before → Held file v n after
-held-first v counted room = record { counts = counted .counts; window = counted .window; room = omega (arith, counted .room) }
+    quiet-next f = record { rest = quiet .rest ∙ passes-step k h flow body pass left l ∙ rw (← q, ← e, f) }

@@ -4,7 +4,8 @@ use mathlib.Core.Bool.{Bool, true, false, _&&_}
 use mathlib.Core.List.{List, [], _∷_, _++_}
 use mathlib.Core.Option.{Option, none, some}
 use lib.ListN.{getD}
-use Rattle.story.specs.Story.{What, Item, Story}
+use Rattle.records.specs.Items.{What, Item}
+use Rattle.story.specs.Story.{Story}
 use Rattle.rules.specs.declared.Rule.{Rule}
 use Rattle.rules.specs.Rules.{Known, Here, known, here, Scope}
 use Rattle.rules.specs.Steps.{s5, s17, bracket, targets, calls, choices, temps, variableDiverts, gathers, Run, Breach, namesOf, flowNamed}

@@ -1,20 +1,20 @@
 // The twenty steps in order (context.rs).
 ghost use mathlib.Core.Path.{_≡_};
-ghost use Prim.Native.Nat.{_+_, _≤_};
+ghost use Prim.Native.Nat.{_≤_};
 ghost use lib.ListN.{length};
 ghost use Rattle.names.specs.Words.{each};
-ghost use Rattle.story.specs.File.{storyIn, readOf};
-ghost use Rattle.story.specs.declared.Opened.the-variants as Opened;
-ghost use Rattle.searches.specs.Views.{viewedFlow, viewedStitch};
+ghost use Rattle.story.specs.File.{storyIn};
+ghost use Rattle.items.specs.Bodies.{Kept, keptStory, keptStitch, keptFlow};
 ghost use Rattle.rules.specs.Steps.{stitchRuns, flowRuns, verdict};
-ghost use Rattle.checks.specs.Context.{Ready, ScopeReady};
+ghost use Rattle.checks.specs.Context.{Ready};
 ghost use Rattle.filters.specs.Names.{Declared};
 ghost use Rattle.context.specs.Found.{foundOf, foundRuns, passesFrom};
-ghost use Rattle.context.specs.Scopes.{knotView, FlowReady, StitchReady, FlowsReady, Held, FirstSteps, passesFound, laterRuns};
+ghost use Rattle.context.specs.Scopes.{rootView, FlowReady, StitchReady, FlowsReady, passesFound, firstRuns, laterRuns};
 use crate::Found;
 use crate::passes::GATHERS;
 use crate::passes::INNER;
 use crate::passes::OUTER;
+use crate::passes::filter_room;
 use crate::passes::find_in_passes;
 use crate::passes::is_clear;
 use crate::passes::validate_passes;
@@ -24,8 +24,6 @@ use crate::scopes::stitch_scope;
 use crate::structure::validate_flow_parameter_names;
 use crate::structure::validate_function_purity;
 use crate::structure::validate_stitch_name;
-use bodies::windows::count_items;
-use checks::ScopeView;
 use filters::declared::put_declared;
 use searches::views::FlowView;
 use searches::views::FlowViewRead;
@@ -35,85 +33,35 @@ use searches::views::flow_view;
 use searches::views::stitch_view;
 use story::Sections;
 
-// The first breach of so many passes from the first on, along the body of the root, the flow or the stitch.
-fn validate_body(
-    first: u8,
-    many: u8,
-    file: &[u8],
-    c: Sections,
-    index: &[u32],
-    count: usize,
-    functions: &[u32],
-    hints: &[u32],
-    scope: ScopeView,
-    declared: &[u8],
-    gathers: &mut [u8],
-    batch: &mut [u32],
-    scratch: &mut [u32],
-) -> Found
-    requires { ⌜ first + many ≤ 13 ⌝ }
-    requires { ⌜ Ready (now file) c (now index) count (now functions) ⌝ }
-    requires { ⌜ ScopeReady (now file) scope ⌝ }
-    requires { ⌜ (2 ≤ length (now batch)) × (2 ≤ length (now scratch)) ⌝ }
-    requires { ⌜ Declared (now file) (scope .outer) (scope .body) (scope .stitches) (scope .end) (now declared) ⌝ }
-    ensures { λ r. ⌜ r ≡ passesFound (now (file .entry)) c scope (passesFrom first many) ⌝ }
-{
-    let items = count_items(file, scope.from, scope.to, batch);
-    validate_passes(
-        first,
-        many,
-        file,
-        c,
-        index,
-        count,
-        functions,
-        hints,
-        scope,
-        items,
-        declared,
-        gathers,
-        batch,
-        scratch,
-    )
-}
-
-// Steps 5 and 6, of a flow whose body has so many items, the first ones in the batch.
+// Steps 5 and 6, of a flow.
 fn validate_first_steps(
     file: &[u8],
     c: Sections,
+    kept: &[u32],
     index: &[u32],
     count: usize,
     functions: &[u32],
     hints: &[u32],
     v: FlowView,
-    items: usize,
     declared: &[u8],
     gathers: &mut [u8],
-    batch: &mut [u32],
-    scratch: &mut [u32],
 ) -> Found
     requires { ⌜ Ready (now file) c (now index) count (now functions) ⌝ }
-    requires { ⌜ FlowReady (now file) v ⌝ }
-    requires { ⌜ Held (now file) (knotView v) items (now batch) ⌝ }
-    requires { ⌜ 2 ≤ length (now scratch) ⌝ }
-    requires { ⌜ Declared (now file) (v .params) (v .from) (v .stitches) (v .end) (now declared) ⌝ }
-    ensures { λ r. ⌜ FirstSteps (now (file .entry)) c v items r (now (batch .exit)) ⌝ }
+    requires { ⌜ FlowReady (now file) (now kept) v ⌝ }
+    requires { ⌜ Declared (now file) (now kept) (v .params) (v .from) (v .stitches) (v .end) (now declared) ⌝ }
+    ensures { λ r. ⌜ r ≡ foundRuns (keptStory c (now (file .entry))) (firstRuns (keptFlow (now (file .entry)) (now (kept .entry)) v)) ⌝ }
 {
-    let scope = knot_scope(v);
     let purity = validate_function_purity(
         file,
         c,
+        kept,
         index,
         count,
         functions,
         hints,
         v,
-        scope,
-        items,
         declared,
         gathers,
-        batch,
-        scratch,
     );
     if let Found::Breach(_) = purity {
         return purity;
@@ -125,6 +73,7 @@ fn validate_first_steps(
 fn validate_stitch(
     file: &[u8],
     c: Sections,
+    kept: &[u32],
     index: &[u32],
     count: usize,
     functions: &[u32],
@@ -133,35 +82,30 @@ fn validate_stitch(
     w: StitchView,
     declared: &[u8],
     gathers: &mut [u8],
-    batch: &mut [u32],
-    scratch: &mut [u32],
 ) -> Found
     requires { ⌜ Ready (now file) c (now index) count (now functions) ⌝ }
-    requires { ⌜ FlowReady (now file) v ⌝ }
+    requires { ⌜ FlowReady (now file) (now kept) v ⌝ }
     requires { ⌜ StitchReady (now file) w ⌝ }
-    requires { ⌜ (2 ≤ length (now batch)) × (2 ≤ length (now scratch)) ⌝ }
-    requires { ⌜ Declared (now file) (v .params) (v .from) (v .stitches) (v .end) (now declared) ⌝ }
-    ensures { λ r. ⌜ r ≡ foundRuns (storyIn c (now (file .entry))) (stitchRuns (viewedFlow (now (file .entry)) v) (viewedStitch (now (file .entry)) w)) ⌝ }
+    requires { ⌜ Declared (now file) (now kept) (v .params) (v .from) (v .stitches) (v .end) (now declared) ⌝ }
+    ensures { λ r. ⌜ r ≡ foundRuns (keptStory c (now (file .entry))) (stitchRuns (keptFlow (now (file .entry)) (now (kept .entry)) v) (keptStitch (now (file .entry)) (now (kept .entry)) w)) ⌝ }
 {
-    let scope = stitch_scope(v, w);
     let name = validate_stitch_name(file, c, v.name, w.name);
     if let Found::Breach(_) = name {
         return name;
     }
-    validate_body(
+    validate_passes(
         INNER,
         6,
         file,
         c,
+        kept,
         index,
         count,
         functions,
         hints,
-        scope,
+        stitch_scope(v, w),
         declared,
         gathers,
-        batch,
-        scratch,
     )
 }
 
@@ -169,6 +113,7 @@ fn validate_stitch(
 fn validate_stitches(
     file: &[u8],
     c: Sections,
+    kept: &[u32],
     index: &[u32],
     count: usize,
     functions: &[u32],
@@ -176,14 +121,11 @@ fn validate_stitches(
     v: FlowView,
     declared: &[u8],
     gathers: &mut [u8],
-    batch: &mut [u32],
-    scratch: &mut [u32],
 ) -> Found
     requires { ⌜ Ready (now file) c (now index) count (now functions) ⌝ }
-    requires { ⌜ FlowReady (now file) v ⌝ }
-    requires { ⌜ (2 ≤ length (now batch)) × (2 ≤ length (now scratch)) ⌝ }
-    requires { ⌜ Declared (now file) (v .params) (v .from) (v .stitches) (v .end) (now declared) ⌝ }
-    ensures { λ r. ⌜ r ≡ foundRuns (storyIn c (now (file .entry))) (each (stitchRuns (viewedFlow (now (file .entry)) v)) (viewedFlow (now (file .entry)) v .stitches)) ⌝ }
+    requires { ⌜ FlowReady (now file) (now kept) v ⌝ }
+    requires { ⌜ Declared (now file) (now kept) (v .params) (v .from) (v .stitches) (v .end) (now declared) ⌝ }
+    ensures { λ r. ⌜ r ≡ foundRuns (keptStory c (now (file .entry))) (each (stitchRuns (keptFlow (now (file .entry)) (now (kept .entry)) v)) (keptFlow (now (file .entry)) (now (kept .entry)) v .stitches)) ⌝ }
 {
     let end = v.end;
     let mut at = v.stitches;
@@ -194,6 +136,7 @@ fn validate_stitches(
         let found = validate_stitch(
             file,
             c,
+            kept,
             index,
             count,
             functions,
@@ -202,8 +145,6 @@ fn validate_stitches(
             w,
             declared,
             gathers,
-            batch,
-            scratch,
         );
         if let Found::Breach(_) = found {
             return found;
@@ -212,27 +153,23 @@ fn validate_stitches(
     }
 }
 
-// Steps 7 to 19, of a flow whose body has so many items, one after the other.
+// Steps 7 to 19, of a flow, one after the other.
 fn validate_unclear_flow(
     file: &[u8],
     c: Sections,
+    kept: &[u32],
     index: &[u32],
     count: usize,
     functions: &[u32],
     hints: &[u32],
     v: FlowView,
-    items: usize,
     declared: &[u8],
     gathers: &mut [u8],
-    batch: &mut [u32],
-    scratch: &mut [u32],
 ) -> Found
     requires { ⌜ Ready (now file) c (now index) count (now functions) ⌝ }
-    requires { ⌜ FlowReady (now file) v ⌝ }
-    requires { ⌜ Held (now file) (knotView v) items (now batch) ⌝ }
-    requires { ⌜ 2 ≤ length (now scratch) ⌝ }
-    requires { ⌜ Declared (now file) (v .params) (v .from) (v .stitches) (v .end) (now declared) ⌝ }
-    ensures { λ r. ⌜ r ≡ foundRuns (storyIn c (now (file .entry))) (laterRuns (viewedFlow (now (file .entry)) v)) ⌝ }
+    requires { ⌜ FlowReady (now file) (now kept) v ⌝ }
+    requires { ⌜ Declared (now file) (now kept) (v .params) (v .from) (v .stitches) (v .end) (now declared) ⌝ }
+    ensures { λ r. ⌜ r ≡ foundRuns (keptStory c (now (file .entry))) (laterRuns (keptFlow (now (file .entry)) (now (kept .entry)) v)) ⌝ }
 {
     let scope = knot_scope(v);
     let own = find_in_passes(
@@ -240,15 +177,13 @@ fn validate_unclear_flow(
         5,
         file,
         c,
+        kept,
         index,
         count,
         functions,
         hints,
         scope,
-        items,
         declared,
-        batch,
-        scratch,
     );
     if let Found::Breach(_) = own {
         return own;
@@ -256,6 +191,7 @@ fn validate_unclear_flow(
     let stitches = validate_stitches(
         file,
         c,
+        kept,
         index,
         count,
         functions,
@@ -263,17 +199,16 @@ fn validate_unclear_flow(
         v,
         declared,
         gathers,
-        batch,
-        scratch,
     );
     if let Found::Breach(_) = stitches {
         return stitches;
     }
-    validate_body(
+    validate_passes(
         GATHERS,
         1,
         file,
         c,
+        kept,
         index,
         count,
         functions,
@@ -281,8 +216,6 @@ fn validate_unclear_flow(
         scope,
         declared,
         gathers,
-        batch,
-        scratch,
     )
 }
 
@@ -290,43 +223,38 @@ fn validate_unclear_flow(
 fn validate_later_steps(
     file: &[u8],
     c: Sections,
+    kept: &[u32],
     index: &[u32],
     count: usize,
     functions: &[u32],
     hints: &[u32],
     v: FlowView,
-    items: usize,
     declared: &[u8],
     gathers: &mut [u8],
-    batch: &mut [u32],
-    scratch: &mut [u32],
 ) -> Found
     requires { ⌜ Ready (now file) c (now index) count (now functions) ⌝ }
-    requires { ⌜ FlowReady (now file) v ⌝ }
-    requires { ⌜ Held (now file) (knotView v) items (now batch) ⌝ }
-    requires { ⌜ 2 ≤ length (now scratch) ⌝ }
-    requires { ⌜ Declared (now file) (v .params) (v .from) (v .stitches) (v .end) (now declared) ⌝ }
-    ensures { λ r. ⌜ r ≡ foundRuns (storyIn c (now (file .entry))) (laterRuns (viewedFlow (now (file .entry)) v)) ⌝ }
+    requires { ⌜ FlowReady (now file) (now kept) v ⌝ }
+    requires { ⌜ Declared (now file) (now kept) (v .params) (v .from) (v .stitches) (v .end) (now declared) ⌝ }
+    ensures { λ r. ⌜ r ≡ foundRuns (keptStory c (now (file .entry))) (laterRuns (keptFlow (now (file .entry)) (now (kept .entry)) v)) ⌝ }
 {
     if is_clear(
         OUTER,
         GATHERS + 1,
         file,
         c,
+        kept,
         index,
         count,
         functions,
         hints,
         knot_scope(v),
-        items,
         declared,
         gathers,
-        batch,
-        scratch,
     ) {
         return validate_stitches(
             file,
             c,
+            kept,
             index,
             count,
             functions,
@@ -334,23 +262,19 @@ fn validate_later_steps(
             v,
             declared,
             gathers,
-            batch,
-            scratch,
         );
     }
     validate_unclear_flow(
         file,
         c,
+        kept,
         index,
         count,
         functions,
         hints,
         v,
-        items,
         declared,
         gathers,
-        batch,
-        scratch,
     )
 }
 
@@ -358,6 +282,7 @@ fn validate_later_steps(
 fn validate_whole_flow(
     file: &[u8],
     c: Sections,
+    kept: &[u32],
     index: &[u32],
     count: usize,
     functions: &[u32],
@@ -365,29 +290,23 @@ fn validate_whole_flow(
     v: FlowView,
     declared: &mut [u8],
     gathers: &mut [u8],
-    batch: &mut [u32],
-    scratch: &mut [u32],
 ) -> Found
     requires { ⌜ Ready (now file) c (now index) count (now functions) ⌝ }
-    requires { ⌜ FlowReady (now file) v ⌝ }
-    requires { ⌜ (2 ≤ length (now batch)) × (2 ≤ length (now scratch)) ⌝ }
-    ensures { λ r. ⌜ r ≡ foundRuns (storyIn c (now (file .entry))) (flowRuns (viewedFlow (now (file .entry)) v)) ⌝ }
+    requires { ⌜ FlowReady (now file) (now kept) v ⌝ }
+    ensures { λ r. ⌜ r ≡ foundRuns (keptStory c (now (file .entry))) (flowRuns (keptFlow (now (file .entry)) (now (kept .entry)) v)) ⌝ }
 {
-    put_declared(file, v.params, v.from, v.stitches, v.end, declared, scratch);
-    let items = count_items(file, v.from, v.to, batch);
+    put_declared(file, kept, v.params, v.from, v.stitches, v.end, declared);
     let first = validate_first_steps(
         file,
         c,
+        kept,
         index,
         count,
         functions,
         hints,
         v,
-        items,
         declared,
         gathers,
-        batch,
-        scratch,
     );
     if let Found::Breach(_) = first {
         return first;
@@ -395,16 +314,14 @@ fn validate_whole_flow(
     validate_later_steps(
         file,
         c,
+        kept,
         index,
         count,
         functions,
         hints,
         v,
-        items,
         declared,
         gathers,
-        batch,
-        scratch,
     )
 }
 
@@ -430,19 +347,17 @@ fn declared_room(v: FlowView, bytes: usize) -> usize
 fn validate_flows(
     file: &[u8],
     c: Sections,
+    kept: &[u32],
     index: &[u32],
     count: usize,
     functions: &[u32],
     hints: &[u32],
     declared: &mut [u8],
     gathers: &mut [u8],
-    batch: &mut [u32],
-    scratch: &mut [u32],
 ) -> Found
     requires { ⌜ Ready (now file) c (now index) count (now functions) ⌝ }
-    requires { ⌜ FlowsReady (now file) (c .flows) (c .end) ⌝ }
-    requires { ⌜ (2 ≤ length (now batch)) × (2 ≤ length (now scratch)) ⌝ }
-    ensures { λ r. ⌜ r ≡ foundRuns (storyIn c (now (file .entry))) (each flowRuns (storyIn c (now (file .entry)) .flows)) ⌝ }
+    requires { ⌜ FlowsReady (now file) (now kept) (c .flows) (c .end) ⌝ }
+    ensures { λ r. ⌜ r ≡ foundRuns (keptStory c (now (file .entry))) (each flowRuns (keptStory c (now (file .entry)) .flows)) ⌝ }
 {
     let end = c.end;
     let mut at = c.flows;
@@ -454,6 +369,7 @@ fn validate_flows(
         let found = validate_whole_flow(
             file,
             c,
+            kept,
             index,
             count,
             functions,
@@ -461,8 +377,6 @@ fn validate_flows(
             v,
             &mut declared[..room],
             gathers,
-            batch,
-            scratch,
         );
         if let Found::Breach(_) = found {
             return found;
@@ -471,39 +385,76 @@ fn validate_flows(
     }
 }
 
-// The twenty steps: 1 to 4 at the root, 5 to 19 of each flow, 20 at the root. The first breach, or none.
-pub fn validate_story(
+// Steps 1 to 4, at the root. The filter gets the root's labels.
+fn validate_root(
     file: &[u8],
     c: Sections,
+    kept: &[u32],
     index: &[u32],
     count: usize,
     functions: &[u32],
     hints: &[u32],
     declared: &mut [u8],
     gathers: &mut [u8],
-    batch: &mut [u32],
-    scratch: &mut [u32],
 ) -> Found
     requires { ⌜ Ready (now file) c (now index) count (now functions) ⌝ }
-    requires { ⌜ readOf (now file) ≡ Opened.At c ⌝ }
-    requires { ⌜ (2 ≤ length (now batch)) × (2 ≤ length (now scratch)) ⌝ }
-    ensures { λ r. ⌜ r ≡ foundOf (verdict (storyIn c (now (file .entry)))) ⌝ }
+    requires { ⌜ Kept (now file) c (now kept) ⌝ }
+    ensures { λ r. ⌜ r ≡ passesFound (now (file .entry)) (now (kept .entry)) c (rootView c (length (now (file .entry)))) (passesFrom 0 4) ⌝ }
 {
     let scope = root_scope(c, file.len());
-    let root = validate_body(
+    put_declared(
+        file,
+        kept,
+        scope.outer,
+        scope.body,
+        scope.stitches,
+        scope.end,
+        declared,
+    );
+    validate_passes(
         OUTER,
         4,
         file,
         c,
+        kept,
         index,
         count,
         functions,
         hints,
         scope,
-        &file[..0],
+        declared,
         gathers,
-        batch,
-        scratch,
+    )
+}
+
+// The twenty steps: 1 to 4 at the root, 5 to 19 of each flow, 20 at the root. The first breach, or none.
+pub fn validate_story(
+    file: &[u8],
+    c: Sections,
+    kept: &[u32],
+    index: &[u32],
+    count: usize,
+    functions: &[u32],
+    hints: &[u32],
+    declared: &mut [u8],
+    gathers: &mut [u8],
+) -> Found
+    requires { ⌜ Ready (now file) c (now index) count (now functions) ⌝ }
+    requires { ⌜ Kept (now file) c (now kept) ⌝ }
+    ensures { λ r. ⌜ r ≡ foundOf (verdict (storyIn c (now (file .entry)))) ⌝ }
+{
+    let scope = root_scope(c, file.len());
+    let room = filter_room(scope, declared.len());
+    let root = validate_root(
+        file,
+        c,
+        kept,
+        index,
+        count,
+        functions,
+        hints,
+        &mut declared[..room],
+        gathers,
     );
     if let Found::Breach(_) = root {
         return root;
@@ -511,23 +462,23 @@ pub fn validate_story(
     let flows = validate_flows(
         file,
         c,
+        kept,
         index,
         count,
         functions,
         hints,
         declared,
         gathers,
-        batch,
-        scratch,
     );
     if let Found::Breach(_) = flows {
         return flows;
     }
-    validate_body(
+    validate_passes(
         GATHERS,
         1,
         file,
         c,
+        kept,
         index,
         count,
         functions,
@@ -535,7 +486,5 @@ pub fn validate_story(
         scope,
         &file[..0],
         gathers,
-        batch,
-        scratch,
     )
 }

@@ -1,33 +1,23 @@
 // The steps that go along a body: one loop over its items, for every step.
 ghost use mathlib.Core.Path.{_≡_};
 ghost use mathlib.Core.Bool.{false};
-ghost use mathlib.Core.List.{List};
-ghost use Prim.Native.Nat.{_+_, _≤_};
-ghost use lib.ListN.{length, take};
-ghost use Rattle.story.specs.Story.{What, whats};
+ghost use mathlib.Core.List.{List, []};
+ghost use Prim.Native.Nat.{ℕ, _+_, _≤_};
+ghost use lib.ListN.{take};
+ghost use Rattle.records.specs.Items.{What};
+ghost use Rattle.story.specs.Story.{whats};
+ghost use Rattle.records.specs.Numbers.{itemIn};
+ghost use Rattle.items.specs.Bodies.{keptIn};
 ghost use Rattle.rules.specs.Rules.{Known, Here};
-ghost use Rattle.bodies.specs.Bodies.{bodyIn, Range, Fetched};
 ghost use Rattle.checks.specs.declared.Judged.the-variants as Judged;
 ghost use Rattle.checks.specs.Judged.{judgedBy};
-ghost use Rattle.checks.specs.Context.{Ready, ScopeReady, Sorted, knownIn, hereAt, whatAt};
+ghost use Rattle.checks.specs.Context.{Ready, ScopeReady, knownIn, hereAt, whatAt};
 ghost use Rattle.filters.specs.Names.{Declared, Gathered};
-ghost use Rattle.context.specs.Found.{rulesOf, passAt, passesFrom, clearAt};
-ghost use Rattle.context.specs.Scopes.{Held, Walked, Cleared, Passed};
+ghost use Rattle.context.specs.Found.{rulesOf, passAt, passesFrom, foundAlong, clearAt};
+ghost use Rattle.context.specs.Scopes.{passesFound, passesClear};
 use crate::Found;
 use crate::Pass;
 use crate::breaches::breach_at;
-use bodies::items::ARGUMENT;
-use bodies::items::CALL;
-use bodies::items::CHOICE;
-use bodies::items::DIVERT;
-use bodies::items::GATHER;
-use bodies::items::PLAIN;
-use bodies::items::TEMP;
-use bodies::items::VARIABLE;
-use bodies::items::named_at;
-use bodies::items::sort_at;
-use bodies::windows::count_items;
-use bodies::windows::fetch;
 use checks::Judged;
 use checks::ScopeView;
 use checks::Slot;
@@ -43,6 +33,16 @@ use filters::gathers::check_gather_label;
 use filters::gathers::pass_item;
 use filters::temps::validate_temp_name;
 use filters::words::clear_filter;
+use items::items::ARGUMENT;
+use items::items::CALL;
+use items::items::CHOICE;
+use items::items::DIVERT;
+use items::items::GATHER;
+use items::items::TEMP;
+use items::items::VARIABLE;
+use items::items::named_at;
+use items::items::place_in;
+use items::runs::body_items;
 use story::Sections;
 
 // The numbers of passes: those of the root and of a flow from 0 on, those of a stitch from 6 on, in the order of the steps.
@@ -80,6 +80,7 @@ fn judge(
     pass: Pass,
     file: &[u8],
     c: Sections,
+    kept: &[u32],
     index: &[u32],
     count: usize,
     functions: &[u32],
@@ -88,51 +89,48 @@ fn judge(
     slot: Slot,
     declared: &[u8],
     gathers: &[u8],
-    scratch: &mut [u32],
 ) -> Judged
     requires { ⌜ Ready (now file) c (now index) count (now functions) ⌝ }
-    requires { ⌜ ScopeReady (now file) scope ⌝ }
-    requires { ⌜ 2 ≤ length (now scratch) ⌝ }
-    requires { ⌜ Sorted (now file) slot ⌝ }
-    requires { ⌜ Declared (now file) (scope .outer) (scope .body) (scope .stitches) (scope .end) (now declared) ⌝ }
-    requires { ⌜ Gathered (now file) (scope .from) (scope .to) (slot .number) (now gathers) ⌝ }
-    ensures { λ r. ⌜ r ≡ judgedBy (knownIn c (now (file .entry))) (hereAt (now (file .entry)) scope) (rulesOf pass) (take (slot .number) (whats (bodyIn (now (file .entry)) (scope .from) (scope .to)))) (whatAt (now (file .entry)) slot) ⌝ }
+    requires { ⌜ ScopeReady (now file) (now kept) scope ⌝ }
+    requires { ⌜ Declared (now file) (now kept) (scope .outer) (scope .body) (scope .stitches) (scope .end) (now declared) ⌝ }
+    requires { ⌜ Gathered (now file) (now kept) (scope .from) (scope .to) (slot .number) (now gathers) ⌝ }
+    ensures { λ r. ⌜ r ≡ judgedBy (knownIn c (now (file .entry))) (hereAt (now (file .entry)) (now (kept .entry)) scope) (rulesOf pass) (take (slot .number) (whats (keptIn (now (file .entry)) (now (kept .entry)) (scope .from) (scope .to)))) (whatAt (now (file .entry)) slot) ⌝ }
 {
+    let item = slot.item;
     match pass {
-        Pass::Temps => validate_temp_name(file, c, functions, scope, slot, declared, scratch),
-        Pass::Targets => validate_node_divert(file, c, index, count, functions, hints, slot),
-        Pass::Calls => validate_node_function_calls(file, c, functions, slot),
-        Pass::Choices => check_no_direct_choice_in_branch(file, slot),
-        Pass::VariableDiverts => validate_node_variable_divert_target(file, scope, slot),
-        Pass::Variables => validate_node_vars(file, scope, slot, declared, scratch),
-        Pass::Gathers => check_gather_label(file, scope.from, scope.to, slot, gathers, scratch),
-        Pass::Purity => check_function_body_purity(file, slot),
+        Pass::Temps => validate_temp_name(file, c, functions, scope, kept, item, declared),
+        Pass::Targets => validate_node_divert(file, c, index, count, functions, hints, item),
+        Pass::Calls => validate_node_function_calls(file, c, functions, item),
+        Pass::Choices => check_no_direct_choice_in_branch(file, item),
+        Pass::VariableDiverts => validate_node_variable_divert_target(file, scope, item),
+        Pass::Variables => validate_node_vars(file, scope, kept, item, declared),
+        Pass::Gathers => check_gather_label(file, kept, scope.from, scope.to, slot, gathers),
+        Pass::Purity => check_function_body_purity(file, item),
     }
 }
 
 // The pass tests items of such a sort. Where it does not, the item breaks no rule of it.
-fn is_concerned(pass: Pass, file: &[u8], slot: Slot) -> bool
-    requires { ⌜ Sorted (now file) slot ⌝ }
-    ensures { λ r. ⌜ (r ≡ false → (k : Known) (h : Here) (before : List What) → Judged.Fine ≡ judgedBy k h (rulesOf pass) before (whatAt (now (file .entry)) slot)) ⌝ }
+fn is_concerned(pass: Pass, item: u32) -> bool
+    ensures { λ r. ⌜ (r ≡ false → (file : List ℕ) (k : Known) (h : Here) (before : List What) → Judged.Fine ≡ judgedBy k h (rulesOf pass) before (itemIn file item .what)) ⌝ }
 {
     match pass {
-        Pass::Temps => is_sort(file, slot, TEMP),
-        Pass::Targets => has_target(file, slot),
-        Pass::Calls => is_sort(file, slot, CALL),
-        Pass::Choices => is_sort(file, slot, CHOICE),
+        Pass::Temps => is_sort(item, TEMP),
+        Pass::Targets => has_target(item),
+        Pass::Calls => is_sort(item, CALL),
+        Pass::Choices => is_sort(item, CHOICE),
         Pass::VariableDiverts => {
-            if has_target(file, slot) {
+            if has_target(item) {
                 return true;
             }
-            is_sort(file, slot, ARGUMENT)
+            is_sort(item, ARGUMENT)
         }
-        Pass::Variables => is_sort(file, slot, VARIABLE),
-        Pass::Gathers => is_sort(file, slot, GATHER),
+        Pass::Variables => is_sort(item, VARIABLE),
+        Pass::Gathers => is_sort(item, GATHER),
         Pass::Purity => {
-            if is_sort(file, slot, CHOICE) {
+            if is_sort(item, CHOICE) {
                 return true;
             }
-            is_sort(file, slot, DIVERT)
+            is_sort(item, DIVERT)
         }
     }
 }
@@ -142,6 +140,7 @@ fn judge_item(
     pass: Pass,
     file: &[u8],
     c: Sections,
+    kept: &[u32],
     index: &[u32],
     count: usize,
     functions: &[u32],
@@ -150,21 +149,19 @@ fn judge_item(
     slot: Slot,
     declared: &[u8],
     gathers: &[u8],
-    scratch: &mut [u32],
 ) -> Judged
     requires { ⌜ Ready (now file) c (now index) count (now functions) ⌝ }
-    requires { ⌜ ScopeReady (now file) scope ⌝ }
-    requires { ⌜ 2 ≤ length (now scratch) ⌝ }
-    requires { ⌜ Sorted (now file) slot ⌝ }
-    requires { ⌜ Declared (now file) (scope .outer) (scope .body) (scope .stitches) (scope .end) (now declared) ⌝ }
-    requires { ⌜ Gathered (now file) (scope .from) (scope .to) (slot .number) (now gathers) ⌝ }
-    ensures { λ r. ⌜ r ≡ judgedBy (knownIn c (now (file .entry))) (hereAt (now (file .entry)) scope) (rulesOf pass) (take (slot .number) (whats (bodyIn (now (file .entry)) (scope .from) (scope .to)))) (whatAt (now (file .entry)) slot) ⌝ }
+    requires { ⌜ ScopeReady (now file) (now kept) scope ⌝ }
+    requires { ⌜ Declared (now file) (now kept) (scope .outer) (scope .body) (scope .stitches) (scope .end) (now declared) ⌝ }
+    requires { ⌜ Gathered (now file) (now kept) (scope .from) (scope .to) (slot .number) (now gathers) ⌝ }
+    ensures { λ r. ⌜ r ≡ judgedBy (knownIn c (now (file .entry))) (hereAt (now (file .entry)) (now (kept .entry)) scope) (rulesOf pass) (take (slot .number) (whats (keptIn (now (file .entry)) (now (kept .entry)) (scope .from) (scope .to)))) (whatAt (now (file .entry)) slot) ⌝ }
 {
-    if is_concerned(pass, file, slot) {
+    if is_concerned(pass, slot.item) {
         return judge(
             pass,
             file,
             c,
+            kept,
             index,
             count,
             functions,
@@ -173,81 +170,52 @@ fn judge_item(
             slot,
             declared,
             gathers,
-            scratch,
         );
     }
     Judged::Fine
 }
 
-// The first window of the body again, after one that begins at item number `skip`.
-fn rewind(file: &[u8], from: usize, to: usize, skip: usize, batch: &mut [u32])
-    requires { ⌜ Range (now file) from to ⌝ }
-    requires { ⌜ Fetched (now file) from to skip (now batch) ⌝ }
-    ensures { λ r. ⌜ Fetched (now (file .entry)) from to 0 (now (batch .exit)) ⌝ }
-{
-    if 0 < skip {
-        let _items = count_items(file, from, to, batch);
-    }
-}
-
-// The first breach of a pass along the body of so many items, whose first window is in the batch.
+// The first breach of a pass along the body.
 fn validate_nodes(
     pass: Pass,
     file: &[u8],
     c: Sections,
+    kept: &[u32],
     index: &[u32],
     count: usize,
     functions: &[u32],
     hints: &[u32],
     scope: ScopeView,
-    items: usize,
     declared: &[u8],
-    batch: &mut [u32],
-    scratch: &mut [u32],
 ) -> Found
     requires { ⌜ Ready (now file) c (now index) count (now functions) ⌝ }
-    requires { ⌜ ScopeReady (now file) scope ⌝ }
-    requires { ⌜ Held (now file) scope items (now batch) ⌝ }
-    requires { ⌜ 2 ≤ length (now scratch) ⌝ }
-    requires { ⌜ Declared (now file) (scope .outer) (scope .body) (scope .stitches) (scope .end) (now declared) ⌝ }
-    ensures { λ r. ⌜ Walked (now (file .entry)) c scope (rulesOf pass) items r (now (batch .exit)) ⌝ }
+    requires { ⌜ ScopeReady (now file) (now kept) scope ⌝ }
+    requires { ⌜ Declared (now file) (now kept) (scope .outer) (scope .body) (scope .stitches) (scope .end) (now declared) ⌝ }
+    ensures { λ r. ⌜ r ≡ foundAlong (knownIn c (now (file .entry))) (hereAt (now (file .entry)) (now (kept .entry)) scope) (scope .flow) (rulesOf pass) [] (keptIn (now (file .entry)) (now (kept .entry)) (scope .from) (scope .to)) ⌝ }
 {
-    let from = scope.from;
-    let to = scope.to;
-    let mut skip = 0;
+    let items = body_items(kept, scope.from, scope.to);
     let mut i = 0;
-    while i < items {
-        skip = fetch(file, from, to, i, skip, batch);
-        let at = 2 * (i - skip);
-        let place = batch[at] as usize;
-        let tag = batch[at + 1];
-        let slot = Slot {
-            number: i,
-            place,
-            tag,
-            sort: sort_at(file, place, tag),
-        };
+    while i < items.len() {
+        let item = items[i];
         let judged = judge(
             pass,
             file,
             c,
+            kept,
             index,
             count,
             functions,
             hints,
             scope,
-            slot,
+            Slot { number: i, item },
             declared,
             &file[..0],
-            scratch,
         );
         if let Judged::Broken(rule) = judged {
-            let own = named_at(file, place, tag);
-            return Found::Breach(breach_at(rule, place, scope.flow, own));
+            return Found::Breach(breach_at(rule, place_in(item), scope.flow, named_at(item)));
         }
         i += 1;
     }
-    rewind(file, from, to, skip, batch);
     Found::Clear
 }
 
@@ -257,6 +225,7 @@ fn is_item_clear(
     many: u8,
     file: &[u8],
     c: Sections,
+    kept: &[u32],
     index: &[u32],
     count: usize,
     functions: &[u32],
@@ -265,20 +234,14 @@ fn is_item_clear(
     slot: Slot,
     declared: &[u8],
     gathers: &[u8],
-    scratch: &mut [u32],
 ) -> bool
     requires { ⌜ first + many ≤ 13 ⌝ }
     requires { ⌜ Ready (now file) c (now index) count (now functions) ⌝ }
-    requires { ⌜ ScopeReady (now file) scope ⌝ }
-    requires { ⌜ 2 ≤ length (now scratch) ⌝ }
-    requires { ⌜ Sorted (now file) slot ⌝ }
-    requires { ⌜ Declared (now file) (scope .outer) (scope .body) (scope .stitches) (scope .end) (now declared) ⌝ }
-    requires { ⌜ Gathered (now file) (scope .from) (scope .to) (slot .number) (now gathers) ⌝ }
-    ensures { λ r. ⌜ r ≡ clearAt (knownIn c (now (file .entry))) (hereAt (now (file .entry)) scope) (passesFrom first many) (take (slot .number) (whats (bodyIn (now (file .entry)) (scope .from) (scope .to)))) (whatAt (now (file .entry)) slot) ⌝ }
+    requires { ⌜ ScopeReady (now file) (now kept) scope ⌝ }
+    requires { ⌜ Declared (now file) (now kept) (scope .outer) (scope .body) (scope .stitches) (scope .end) (now declared) ⌝ }
+    requires { ⌜ Gathered (now file) (now kept) (scope .from) (scope .to) (slot .number) (now gathers) ⌝ }
+    ensures { λ r. ⌜ r ≡ clearAt (knownIn c (now (file .entry))) (hereAt (now (file .entry)) (now (kept .entry)) scope) (passesFrom first many) (take (slot .number) (whats (keptIn (now (file .entry)) (now (kept .entry)) (scope .from) (scope .to)))) (whatAt (now (file .entry)) slot) ⌝ }
 {
-    if slot.sort == PLAIN {
-        return true;
-    }
     let mut pass = first;
     let mut left = many;
     while 0 < left {
@@ -286,6 +249,7 @@ fn is_item_clear(
             pass_at(pass),
             file,
             c,
+            kept,
             index,
             count,
             functions,
@@ -294,7 +258,6 @@ fn is_item_clear(
             slot,
             declared,
             gathers,
-            scratch,
         );
         if let Judged::Broken(_) = judged {
             return false;
@@ -311,63 +274,46 @@ fn is_body_clear(
     many: u8,
     file: &[u8],
     c: Sections,
+    kept: &[u32],
     index: &[u32],
     count: usize,
     functions: &[u32],
     hints: &[u32],
     scope: ScopeView,
-    items: usize,
     declared: &[u8],
     gathers: &mut [u8],
-    batch: &mut [u32],
-    scratch: &mut [u32],
 ) -> bool
     requires { ⌜ first + many ≤ 13 ⌝ }
     requires { ⌜ Ready (now file) c (now index) count (now functions) ⌝ }
-    requires { ⌜ ScopeReady (now file) scope ⌝ }
-    requires { ⌜ Held (now file) scope items (now batch) ⌝ }
-    requires { ⌜ 2 ≤ length (now scratch) ⌝ }
-    requires { ⌜ Declared (now file) (scope .outer) (scope .body) (scope .stitches) (scope .end) (now declared) ⌝ }
-    ensures { λ r. ⌜ Cleared (now (file .entry)) c scope (passesFrom first many) items r (now (batch .exit)) ⌝ }
+    requires { ⌜ ScopeReady (now file) (now kept) scope ⌝ }
+    requires { ⌜ Declared (now file) (now kept) (scope .outer) (scope .body) (scope .stitches) (scope .end) (now declared) ⌝ }
+    ensures { λ r. ⌜ r ≡ passesClear (now (file .entry)) (now (kept .entry)) c scope (passesFrom first many) ⌝ }
 {
     clear_filter(gathers);
-    let from = scope.from;
-    let to = scope.to;
-    let mut skip = 0;
+    let items = body_items(kept, scope.from, scope.to);
     let mut i = 0;
-    while i < items {
-        skip = fetch(file, from, to, i, skip, batch);
-        let at = 2 * (i - skip);
-        let place = batch[at] as usize;
-        let tag = batch[at + 1];
-        let slot = Slot {
-            number: i,
-            place,
-            tag,
-            sort: sort_at(file, place, tag),
-        };
+    while i < items.len() {
+        let item = items[i];
         if !is_item_clear(
             first,
             many,
             file,
             c,
+            kept,
             index,
             count,
             functions,
             hints,
             scope,
-            slot,
+            Slot { number: i, item },
             declared,
             gathers,
-            scratch,
         ) {
-            rewind(file, from, to, skip, batch);
             return false;
         }
-        pass_item(file, place, tag, slot.sort, gathers);
+        pass_item(file, item, gathers);
         i += 1;
     }
-    rewind(file, from, to, skip, batch);
     true
 }
 
@@ -377,23 +323,19 @@ pub fn find_in_passes(
     many: u8,
     file: &[u8],
     c: Sections,
+    kept: &[u32],
     index: &[u32],
     count: usize,
     functions: &[u32],
     hints: &[u32],
     scope: ScopeView,
-    items: usize,
     declared: &[u8],
-    batch: &mut [u32],
-    scratch: &mut [u32],
 ) -> Found
     requires { ⌜ first + many ≤ 13 ⌝ }
     requires { ⌜ Ready (now file) c (now index) count (now functions) ⌝ }
-    requires { ⌜ ScopeReady (now file) scope ⌝ }
-    requires { ⌜ Held (now file) scope items (now batch) ⌝ }
-    requires { ⌜ 2 ≤ length (now scratch) ⌝ }
-    requires { ⌜ Declared (now file) (scope .outer) (scope .body) (scope .stitches) (scope .end) (now declared) ⌝ }
-    ensures { λ r. ⌜ Passed (now (file .entry)) c scope (passesFrom first many) items r (now (batch .exit)) ⌝ }
+    requires { ⌜ ScopeReady (now file) (now kept) scope ⌝ }
+    requires { ⌜ Declared (now file) (now kept) (scope .outer) (scope .body) (scope .stitches) (scope .end) (now declared) ⌝ }
+    ensures { λ r. ⌜ r ≡ passesFound (now (file .entry)) (now (kept .entry)) c scope (passesFrom first many) ⌝ }
 {
     let mut pass = first;
     let mut left = many;
@@ -402,15 +344,13 @@ pub fn find_in_passes(
             pass_at(pass),
             file,
             c,
+            kept,
             index,
             count,
             functions,
             hints,
             scope,
-            items,
             declared,
-            batch,
-            scratch,
         );
         if let Found::Breach(_) = found {
             return found;
@@ -422,7 +362,7 @@ pub fn find_in_passes(
 }
 
 // How much of a filter for the body of the scope is used, of so many bytes: no more than the body has.
-fn filter_room(scope: ScopeView, bytes: usize) -> usize
+pub fn filter_room(scope: ScopeView, bytes: usize) -> usize
     requires { ⌜ scope .from ≤ scope .to ⌝ }
     ensures { λ r. ⌜ r ≤ bytes ⌝ }
 {
@@ -439,24 +379,20 @@ pub fn is_clear(
     many: u8,
     file: &[u8],
     c: Sections,
+    kept: &[u32],
     index: &[u32],
     count: usize,
     functions: &[u32],
     hints: &[u32],
     scope: ScopeView,
-    items: usize,
     declared: &[u8],
     gathers: &mut [u8],
-    batch: &mut [u32],
-    scratch: &mut [u32],
 ) -> bool
     requires { ⌜ first + many ≤ 13 ⌝ }
     requires { ⌜ Ready (now file) c (now index) count (now functions) ⌝ }
-    requires { ⌜ ScopeReady (now file) scope ⌝ }
-    requires { ⌜ Held (now file) scope items (now batch) ⌝ }
-    requires { ⌜ 2 ≤ length (now scratch) ⌝ }
-    requires { ⌜ Declared (now file) (scope .outer) (scope .body) (scope .stitches) (scope .end) (now declared) ⌝ }
-    ensures { λ r. ⌜ Cleared (now (file .entry)) c scope (passesFrom first many) items r (now (batch .exit)) ⌝ }
+    requires { ⌜ ScopeReady (now file) (now kept) scope ⌝ }
+    requires { ⌜ Declared (now file) (now kept) (scope .outer) (scope .body) (scope .stitches) (scope .end) (now declared) ⌝ }
+    ensures { λ r. ⌜ r ≡ passesClear (now (file .entry)) (now (kept .entry)) c scope (passesFrom first many) ⌝ }
 {
     let room = filter_room(scope, gathers.len());
     is_body_clear(
@@ -464,16 +400,14 @@ pub fn is_clear(
         many,
         file,
         c,
+        kept,
         index,
         count,
         functions,
         hints,
         scope,
-        items,
         declared,
         &mut gathers[..room],
-        batch,
-        scratch,
     )
 }
 
@@ -483,40 +417,34 @@ pub fn validate_passes(
     many: u8,
     file: &[u8],
     c: Sections,
+    kept: &[u32],
     index: &[u32],
     count: usize,
     functions: &[u32],
     hints: &[u32],
     scope: ScopeView,
-    items: usize,
     declared: &[u8],
     gathers: &mut [u8],
-    batch: &mut [u32],
-    scratch: &mut [u32],
 ) -> Found
     requires { ⌜ first + many ≤ 13 ⌝ }
     requires { ⌜ Ready (now file) c (now index) count (now functions) ⌝ }
-    requires { ⌜ ScopeReady (now file) scope ⌝ }
-    requires { ⌜ Held (now file) scope items (now batch) ⌝ }
-    requires { ⌜ 2 ≤ length (now scratch) ⌝ }
-    requires { ⌜ Declared (now file) (scope .outer) (scope .body) (scope .stitches) (scope .end) (now declared) ⌝ }
-    ensures { λ r. ⌜ Passed (now (file .entry)) c scope (passesFrom first many) items r (now (batch .exit)) ⌝ }
+    requires { ⌜ ScopeReady (now file) (now kept) scope ⌝ }
+    requires { ⌜ Declared (now file) (now kept) (scope .outer) (scope .body) (scope .stitches) (scope .end) (now declared) ⌝ }
+    ensures { λ r. ⌜ r ≡ passesFound (now (file .entry)) (now (kept .entry)) c scope (passesFrom first many) ⌝ }
 {
     if is_clear(
         first,
         many,
         file,
         c,
+        kept,
         index,
         count,
         functions,
         hints,
         scope,
-        items,
         declared,
         gathers,
-        batch,
-        scratch,
     ) {
         return Found::Clear;
     }
@@ -525,14 +453,12 @@ pub fn validate_passes(
         many,
         file,
         c,
+        kept,
         index,
         count,
         functions,
         hints,
         scope,
-        items,
         declared,
-        batch,
-        scratch,
     )
 }

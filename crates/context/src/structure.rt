@@ -1,23 +1,27 @@
 // Step 5, functions; step 6, parameters; step 12, a stitch's name (structure.rs).
 ghost use mathlib.Core.Path.{_≡_};
 ghost use mathlib.Core.Bool.{true};
-ghost use Prim.Native.Nat.{_≤_, _<_};
+ghost use mathlib.Core.List.{[], _∷_};
+ghost use Prim.Native.Nat.{_<_};
 ghost use lib.ListN.{length, drop};
 ghost use Rattle.names.specs.Words.{any};
 ghost use Rattle.story.specs.Story.{Stitch};
 ghost use Rattle.story.specs.File.{InOrder};
-ghost use Rattle.story.specs.Flows.{countedIn, piecesIn, stitchIn, part};
-ghost use Rattle.rules.specs.Rules.{Here};
+ghost use Rattle.story.specs.Flows.{countedIn};
+ghost use Rattle.items.specs.Bodies.{keptStory, keptStitches, keptFlow};
+ghost use Rattle.rules.specs.Rules.{Here, knot};
+ghost use Rattle.rules.specs.Steps.{s5, over, purityItems};
 ghost use Rattle.tables.specs.Functions.{Functions};
 ghost use Rattle.checks.specs.Context.{Ready, StitchesReady};
 ghost use Rattle.filters.specs.Names.{Declared};
-ghost use Rattle.context.specs.Scopes.{FlowReady, Held, knotView, Purified, paramsFound, stitchNameFound};
+ghost use Rattle.context.specs.Found.{foundRuns};
+ghost use Rattle.context.specs.Scopes.{FlowReady, paramsFound, stitchNameFound};
 use crate::Found;
 use crate::breaches::breach_at;
 use crate::passes::PURITY;
 use crate::passes::validate_passes;
+use crate::scopes::knot_scope;
 use checks::Judged;
-use checks::ScopeView;
 use checks::structure::check_parameter_name;
 use checks::structure::check_stitch_name;
 use names::name_at;
@@ -30,7 +34,7 @@ use story::Sections;
 // The flow has stitches.
 fn has_stitches(file: &[u8], at: usize, end: usize) -> bool
     requires { ⌜ StitchesReady (now file) at end ⌝ }
-    ensures { λ r. ⌜ r ≡ any (λ (t : Stitch). true) (piecesIn stitchIn at (part at end (now (file .entry)))) ⌝ }
+    ensures { λ r. ⌜ r ≡ any (λ (t : Stitch). true) (keptStitches (now (file .entry)) at end) ⌝ }
 {
     let view = stitch_view(file, at, end);
     match view {
@@ -43,25 +47,19 @@ fn has_stitches(file: &[u8], at: usize, end: usize) -> bool
 pub fn validate_function_purity(
     file: &[u8],
     c: Sections,
+    kept: &[u32],
     index: &[u32],
     count: usize,
     functions: &[u32],
     hints: &[u32],
     v: FlowView,
-    scope: ScopeView,
-    items: usize,
     declared: &[u8],
     gathers: &mut [u8],
-    batch: &mut [u32],
-    scratch: &mut [u32],
 ) -> Found
     requires { ⌜ Ready (now file) c (now index) count (now functions) ⌝ }
-    requires { ⌜ FlowReady (now file) v ⌝ }
-    requires { ⌜ scope ≡ knotView v ⌝ }
-    requires { ⌜ Held (now file) scope items (now batch) ⌝ }
-    requires { ⌜ 2 ≤ length (now scratch) ⌝ }
-    requires { ⌜ Declared (now file) (scope .outer) (scope .body) (scope .stitches) (scope .end) (now declared) ⌝ }
-    ensures { λ r. ⌜ Purified (now (file .entry)) c v items r (now (batch .exit)) ⌝ }
+    requires { ⌜ FlowReady (now file) (now kept) v ⌝ }
+    requires { ⌜ Declared (now file) (now kept) (v .params) (v .from) (v .stitches) (v .end) (now declared) ⌝ }
+    ensures { λ r. ⌜ r ≡ foundRuns (keptStory c (now (file .entry))) (over (knot (keptFlow (now (file .entry)) (now (kept .entry)) v)) (purityItems (v .function) (keptFlow (now (file .entry)) (now (kept .entry)) v)) (s5 ∷ [])) ⌝ }
 {
     if v.function {
         if has_stitches(file, v.stitches, v.end) {
@@ -72,16 +70,14 @@ pub fn validate_function_purity(
             1,
             file,
             c,
+            kept,
             index,
             count,
             functions,
             hints,
-            scope,
-            items,
+            knot_scope(v),
             declared,
             gathers,
-            batch,
-            scratch,
         );
     }
     Found::Clear

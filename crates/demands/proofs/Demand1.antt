@@ -1,7 +1,7 @@
 -- DEMAND 1 of the contracts of the callable functions: `demand1`. Assumes nothing.
 use mathlib.Core.Path.{_≡_, refl, sym, _∙_, ap}
 use mathlib.Core.Bool.{Bool, true, false}
-use mathlib.Core.List.{List, [], _∷_, _++_}
+use mathlib.Core.List.{List, []}
 use mathlib.Core.Logic.{_↔_}
 use Prim.Native.Nat.{ℕ, _+_, _-_, _≤_, _<_}
 use native.Mathlib.Omega.{arith}
@@ -9,14 +9,15 @@ use lib.Dec.{ltb}
 use lib.ListN.{length, getD, drop}
 use borrow.Author.Tests.{ltb-true, ltb-false, lt-ltb, le-ltb}
 use Rattle.fields.specs.Bytes.{pick}
-use Rattle.fields.specs.Refusals.{refusalNumber}
-use Rattle.records.specs.Window.{overlay}
-use Rattle.story.specs.declared.Sections.{Sections}
+use Rattle.records.specs.Numbers.{keptOf}
+use Rattle.records.specs.Buffers.{overlay, fill}
 use Rattle.story.specs.declared.Opened.{Opened}
 use Rattle.story.specs.declared.Opened.the-variants as opened
-use Rattle.story.specs.Story.{Story}
+use Rattle.story.specs.declared.StoryRead.{StoryRead}
+use Rattle.story.specs.Story.{Story, storyItems}
 use Rattle.story.specs.File.{startAt, readOf, storyIn}
 use Rattle.story.specs.Results as read
+use Rattle.story.proofs.Files.{kept-read}
 use Rattle.symbols.specs.Numbers.{indexRoom}
 use Rattle.symbols.specs.Placed.{placed, indexOf}
 use Rattle.rules.specs.Reader.{Readable, storyAt, storyOf}
@@ -26,7 +27,6 @@ use Rattle.validator.specs.Results.{Judged, accepted, breach, Result, refused, 
 use Rattle.validator.specs.Check.{Report, refusing, storyReport, reportAt, reportOf}
 use Rattle.validator.specs.Checked.{Checked}
 use Rattle.validator.proofs.Demand.{story-reported}
-use Rattle.lookups.specs.declared.LookupAnswer.{LookupAnswer}
 use Rattle.lookups.specs.Results as lookup
 use Rattle.lookups.specs.Lookup.{answeredOf, lookupAt, lookupOf, indexAt, lookupIndex, Looked}
 use Rattle.messages.specs.Messages.{Wrote}
@@ -281,21 +281,34 @@ lookup-call-claim = record {
 
 -- 6. Reading
 
-read-unreadable : (file : List ℕ) (n : ℕ) (o : Opened) → readOf file ≡ o → read.readResultOf o ≡ read.refused n → Unreadable file n
-unfolding read.readResultOf
-read-unreadable file n (opened.Refused r) e f = unreadable-exactly file n .0 (r, e, cc)
-read-unreadable file n (opened.At c) e f = let z : _≡_ {A = ℕ} 0 1 = cc in absurd (omega arith)
+module _ (file items : List ℕ) {r : StoryRead} {items′ : List ℕ} (p : read.ReadAs file items r items′) where
+  -- a refusal's number is that of what opening the file refuses
+  read-unreadable : (n : ℕ) (o : Opened) → readOf file ≡ o → read.readResultOf (read.answerOf o file) ≡ read.refused n → Unreadable file n
+  unfolding read.readResultOf read.answerOf
+  read-unreadable n (opened.Refused x) e f = unreadable-exactly file n .0 (x, e, cc)
+  read-unreadable n (opened.At c) e f = let z : _≡_ {A = ℕ} 0 1 = cc in absurd (omega arith)
 
-read-sections : (file : List ℕ) → Readable file → read.readingOf file ≡ read.sections (start file 1) (start file 2) (start file 3) (length file - 20)
-unfolding read.readingOf read.readResultOf startAt
-read-sections file r = rw (r .told, sections-read file (r .sections) (r .told))
+  read-refuses : (n : ℕ) → (read.readResultOf r ≡ read.refused n) ↔ Unreadable file n
+  unfolding read.readingOf read.readResultOf read.answerOf
+  read-refuses n =
+      (λ e. read-unreadable n (readOf file) refl (sym (p .answer) ∙ e), λ u. let q = unreadable-exactly file n .1 u in p .answer ∙ rw (q .1, q .2))
+
+  module _ (readable : Readable file) where
+    read-sections : read.readResultOf r
+        ≡ read.sections (start file 1) (start file 2) (start file 3) (length file - 20) (length (keptOf (storyItems (storyOf file)))) (length (storyItems (storyOf file)))
+    unfolding read.readingOf read.readResultOf read.answerOf startAt storyOf storyAt
+    read-sections = p .answer ∙ rw (readable .told, sections-read file (readable .sections) (readable .told))
+
+    read-keeps : items′ ≡ fill 0 (keptOf (storyItems (storyOf file))) items
+    unfolding storyOf storyAt
+    read-keeps = p .written ∙ rw (readable .told, kept-read file (readable .sections) (readable .told))
 
 pub read-claim : ReadClaim read.ReadAs
-unfolding read.readingOf read.readResultOf
 read-claim = record {
-  refuses = λ file r p n.
-      (λ e. read-unreadable file n (readOf file) refl (sym p ∙ e), λ u. let q = unreadable-exactly file n .1 u in p ∙ rw (q .1, q .2));
-  reads = λ file r p none. p ∙ read-sections file (readable-exactly file .1 none);
+  refuses = λ file items r items′ p. read-refuses file items p;
+  reads = λ file items r items′ p none. read-sections file items p (readable-exactly file .1 none);
+  keeps = λ file items r items′ p. p .written;
+  keeps-story = λ file items r items′ p none. read-keeps file items p (readable-exactly file .1 none);
 }
 
 -- 7. The lines

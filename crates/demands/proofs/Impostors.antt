@@ -3,17 +3,17 @@
 use mathlib.Core.Path.{_≡_, refl, sym, _∙_, ap}
 use mathlib.Core.List.{List}
 use mathlib.Core.Option.{none}
-use Prim.Native.Nat.{ℕ, _≤_}
+use Prim.Native.Nat.{ℕ}
 use native.Mathlib.Omega.{arith}
 use lib.ListN.{length}
 use Rattle.fields.specs.declared.Refusal.the-variants.{Short}
 use Rattle.fields.specs.Refusals.{refusalNumber}
 use Rattle.rules.specs.Steps.{verdict}
-use Rattle.rules.specs.Reader.{Readable, storyOf}
+use Rattle.rules.specs.Reader.{storyOf}
 use Rattle.rules.proofs.FileDemand.{file-demand3}
 use Rattle.validator.specs.declared.Answer.the-variants.{Accepted, Unreadable}
-use Rattle.validator.specs.Results.{accepted, breach, refused, checked, resultOf}
-use Rattle.validator.specs.Check.{judgedOf, Report, refusing, storyReport, reportOf}
+use Rattle.validator.specs.Results.{accepted, breach, checked, resultOf}
+use Rattle.validator.specs.Check.{judgedOf, Report, storyReport, reportOf}
 use Rattle.validator.specs.Demand.{Checks, Demand3}
 use Rattle.validator.proofs.Impostors.{Room, emptyStory, lostDivert, brokenKnot, empty-reported, lost-reported, knot-reported}
 use Rattle.demands.specs.Demand1.{CheckClaim}

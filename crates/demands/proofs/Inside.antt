@@ -5,7 +5,7 @@ use Prim.Native.Nat.{ℕ, _≤_}
 use native.Mathlib.Omega.{arith}
 use Rattle.fields.specs.declared.Refusal.{Refusal}
 use Rattle.fields.specs.Refusals.{refusalNumber}
-use Rattle.records.specs.Trace.{Trace, done, Ending, well, refused, ends}
+use Rattle.records.specs.Trace.{Trace, Ending, well, refused, ends}
 use Rattle.records.specs.Grammar.{bodyOf, recordOf}
 use Rattle.story.proofs.Endings.{thenEnds, ends-then, ends-shift}
 use Rattle.story.proofs.Induction.{OfReading, short, unknown, deep, Kept, names-hold, nodes-hold, flows-hold}

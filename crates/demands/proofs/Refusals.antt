@@ -1,20 +1,19 @@
 -- The definition of reading refuses with a number exactly in the case that is stated for it: `unreadable-exactly`, `readable-exactly`. Assumes nothing.
-use mathlib.Core.Path.{_≡_, refl, sym, _∙_, ap}
+use mathlib.Core.Path.{_≡_, refl, sym, _∙_}
 use mathlib.Core.Bool.{Bool, true, false, not, _&&_, _||_, true≢false}
 use mathlib.Core.List.{List, [], _∷_}
 use mathlib.Core.Logic.{_⊎_, inl, inr, _↔_}
-use Prim.Native.Nat.{ℕ, zero, suc, _+_, _-_, _*_, _≤_, _<_}
+use Prim.Native.Nat.{ℕ, suc, _-_, _≤_, _<_}
 use native.Mathlib.Omega.{arith}
 use lib.Dec.{T, ltb, eqb, eqb→eq}
 use lib.ListN.{length, getD, drop}
 use lib.Seq.{drop-cons, drop-length}
-use borrow.Author.Tests.{ltb-true, ltb-false, eqb-true, eqb-false, lt-ltb, le-ltb, eq-eqb, ne-eqb}
-use Rattle.names.proofs.Bools.{and-left, and-right, or-cases, is-true}
+use borrow.Author.Tests.{ltb-true, ltb-false, eqb-true, lt-ltb, le-ltb, eq-eqb}
+use Rattle.names.proofs.Bools.{and-left, and-right}
 use Rattle.fields.specs.declared.Refusal.{Refusal}
 use Rattle.fields.specs.declared.Refusal.the-variants.{Length, Mark, Starts}
-use Rattle.fields.specs.Bytes.{pick, le32At}
 use Rattle.fields.specs.Refusals.{refusalNumber}
-use Rattle.records.specs.Trace.{Trace, Ending, well, refused, ends}
+use Rattle.records.specs.Trace.{Ending, well, refused, ends}
 use Rattle.story.specs.declared.Sections.{Sections}
 use Rattle.story.specs.declared.Opened.{Opened}
 use Rattle.story.specs.declared.Opened.the-variants as opened
@@ -22,7 +21,7 @@ use Rattle.story.specs.File.{badLength, marked, startAt, ordered, sectionsOf, o
 use Rattle.story.proofs.Endings.{thenEnds}
 use Rattle.story.proofs.Opening.{sections-end}
 use Rattle.rules.specs.Reader.{Readable}
-use Rattle.demands.specs.Refusals.{GoodLength, Marked, start, GoodStarts, readGlobals, readExternals, readRoot, readFlows, Well, Meets, FirstMet, in-globals, in-externals, in-root, in-flows, Unreadable, refusal-1, refusal-2, refusal-3, refusals-4-to-6, NoneApplies}
+use Rattle.demands.specs.Refusals.{GoodLength, Marked, start, GoodStarts, readGlobals, readExternals, readRoot, readFlows, Meets, FirstMet, in-globals, in-externals, in-root, in-flows, Unreadable, refusal-1, refusal-2, refusal-3, refusals-4-to-6, NoneApplies}
 
 -- 1. The three tests on the trailer, by what is stated
 

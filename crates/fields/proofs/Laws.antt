@@ -12,8 +12,6 @@ use lib.Arith.{lt-of-le-ne}
 use borrow.Author.Tests.{ltb-false, lt-ltb, le-ltb}
 use Rattle.fields.specs.declared.Refusal.{Refusal}
 use Rattle.fields.specs.declared.Refusal.the-variants.{Short, Unknown}
-use Rattle.fields.specs.declared.Role.{Role}
-use Rattle.fields.specs.declared.Role.the-variants.{Node, Branch, Cond, Visited, Argument, Unvisited}
 use Rattle.fields.specs.declared.Head.{Head}
 use Rattle.fields.specs.declared.Head.the-variants as head
 use Rattle.fields.specs.declared.Span.{Span}
@@ -23,7 +21,6 @@ use Rattle.fields.specs.declared.NameRead.the-variants as name
 use Rattle.fields.specs.declared.FlagRead.{FlagRead}
 use Rattle.fields.specs.declared.FlagRead.the-variants as flag
 use Rattle.fields.specs.Bytes.{pick, le32At, headOf, listOf, nameOf, flagOf, headSpan, testSpanAt, testSpan}
-use Rattle.fields.specs.Kinds.{roleNumber}
 
 -- w bytes, then the m bytes that they announce: an answer z that is not the refusal x is y, and they fit
 module _ {A : Type 0} (x y z : A) (s : List ℕ) (w m : ℕ) where
@@ -150,12 +147,3 @@ test-on s e q h = rw (← e, q, h, to-end 1 s)
 -- a number that is not n, and n at least, is more
 pub past : {n k : ℕ} → n ≤ k → (k ≡ n → ⊥) → suc n ≤ k
 past h r = lt-of-le-ne h (λ e. r (sym e))
-
-pub role-small : (r : Role) → roleNumber r < 6
-unfolding roleNumber
-role-small Node = omega arith
-role-small Branch = omega arith
-role-small Cond = omega arith
-role-small Visited = omega arith
-role-small Argument = omega arith
-role-small Unvisited = omega arith

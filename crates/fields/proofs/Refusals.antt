@@ -1,6 +1,6 @@
 -- The number of a refusal tells which it is: `refusal-at`. Assumes nothing.
 use mathlib.Core.Path.{_≡_, refl}
-use mathlib.Core.List.{List, [], _∷_, _++_, map}
+use mathlib.Core.List.{List, _∷_}
 use lib.ListN.{getD}
 use Rattle.fields.specs.declared.Refusal.{Refusal}
 use Rattle.fields.specs.declared.Refusal.the-variants.{Length, Mark, Starts, Short, Unknown, Deep}

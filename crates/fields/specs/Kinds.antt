@@ -1,5 +1,5 @@
 -- How the payload of each kind is read, and in which role the records inside it stand.
-use Prim.Native.Nat.{ℕ, _+_, _*_}
+use Prim.Native.Nat.{ℕ}
 use mathlib.Core.List.{List, [], _∷_}
 use lib.ListN.{getD}
 use Rattle.fields.specs.declared.Role.{Role}
@@ -67,16 +67,3 @@ kindOf Cond k = condKind k
 kindOf Visited k = exprKind Visited k
 kindOf Argument k = exprKind Unvisited k
 kindOf Unvisited k = exprKind Unvisited k
-
--- a number for each role
-unfoldable pub roleNumber : Role → ℕ
-roleNumber Node = 0
-roleNumber Branch = 1
-roleNumber Cond = 2
-roleNumber Visited = 3
-roleNumber Argument = 4
-roleNumber Unvisited = 5
-
--- role and kind as one number
-unfoldable pub tagOf : Role → ℕ → ℕ
-tagOf r k = roleNumber r * 256 + k

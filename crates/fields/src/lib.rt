@@ -1,7 +1,7 @@
 // The fields of a story file: numbers, names, the heads of lists and records, and the kinds.
 ghost use mathlib.Core.Path.{_≡_};
 ghost use Rattle.fields.specs.Bytes.{le32, headOf, listOf, nameOf, flagOf, headSpan, testSpan};
-ghost use Rattle.fields.specs.Kinds.{exprKind, condKind, nodeKind, kindOf, roleNumber, tagOf};
+ghost use Rattle.fields.specs.Kinds.{exprKind, condKind, nodeKind, kindOf};
 ghost use Rattle.fields.specs.Refusals.{refusalNumber};
 
 // Why a file cannot be read: refusals 1 to 6.
@@ -223,27 +223,6 @@ pub fn read_kind(role: Role, kind: u8) -> Kinded
         Role::Argument => expr_kind(kind, Role::Unvisited),
         Role::Unvisited => expr_kind(kind, Role::Unvisited),
     }
-}
-
-// A number for each role.
-fn role_number(role: Role) -> u32
-    ensures { λ r. ⌜ r ≡ roleNumber role ⌝ }
-{
-    match role {
-        Role::Node => 0,
-        Role::Branch => 1,
-        Role::Cond => 2,
-        Role::Visited => 3,
-        Role::Argument => 4,
-        Role::Unvisited => 5,
-    }
-}
-
-// Role and kind as one number.
-pub fn tag(role: Role, kind: u8) -> u32
-    ensures { λ r. ⌜ r ≡ tagOf role kind ⌝ }
-{
-    role_number(role) * 256 + (kind as u32)
 }
 
 // How far the record at the front of s reaches.

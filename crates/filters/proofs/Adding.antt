@@ -10,19 +10,13 @@ use lib.Seq.{drop-drop, drop-cons}
 use borrow.Author.Tests.{eq-eqb, ne-eqb}
 use Rattle.names.specs.Words.{Bytes, each}
 use Rattle.names.specs.Counted.{nameAt}
-use Rattle.story.specs.Story.{What, Item, code, words, whats}
+use Rattle.records.specs.Items.{What, code}
+use Rattle.story.specs.Story.{words, whats}
 use Rattle.story.specs.Flows.{namesN, countedIn}
 use Rattle.story.proofs.Unfolding.{names-n-zero, names-n-none}
-use Rattle.searches.specs.declared.views.StitchView.{StitchView}
-use Rattle.searches.specs.declared.views.StitchViewRead.{StitchViewRead}
-use Rattle.searches.specs.declared.views.StitchViewRead.the-variants as read
-use Rattle.searches.specs.Views.{stitchViewOf}
-use Rattle.searches.proofs.Viewed.{stitch-viewed}
-use Rattle.bodies.specs.Bodies.{bodyIn}
-use Rattle.checks.specs.Context.{StitchesReady}
-use Rattle.checks.proofs.Stitches.{stitches-none}
+use Rattle.records.specs.Numbers.{itemIn}
+use Rattle.items.specs.Bodies.{itemsAt}
 use Rattle.filters.specs.Words.{added, addedAll, sortNamed, labelNamed}
-use Rattle.filters.specs.Names.{stitchLabels}
 
 -- 1. The names after a count byte
 
@@ -66,14 +60,14 @@ module _ {start s filter : List ℕ} {left at : ℕ} (names : NamesLeft start s 
 
 -- 2. The names of items of a sort
 
-module _ (filter : List ℕ) (w : What) {sort wanted : ℕ} (e : sort ≡ code (w .kind)) where
-  pub item-added : sort ≡ wanted → {name : Bytes} → name ≡ w .name → {after : List ℕ} → after ≡ added filter name → after ≡ addedAll filter (sortNamed wanted w)
+module _ (filter : List ℕ) (w : What) {sort found : ℕ} (e : found ≡ code (w .kind)) where
+  pub item-added : sort ≡ found → {name : Bytes} → name ≡ w .name → {after : List ℕ} → after ≡ added filter name → after ≡ addedAll filter (sortNamed sort w)
   unfolding addedAll sortNamed
-  item-added s n a = a ∙ rw (eq-eqb wanted (code (w .kind)) (sym s ∙ e), n)
+  item-added s n a = a ∙ rw (eq-eqb sort (code (w .kind)) (s ∙ e), n)
 
-  pub item-passed : (sort ≡ wanted → ⊥) → filter ≡ addedAll filter (sortNamed wanted w)
+  pub item-passed : (sort ≡ found → ⊥) → filter ≡ addedAll filter (sortNamed sort w)
   unfolding addedAll sortNamed
-  item-passed s = rw (ne-eqb wanted (code (w .kind)) (λ q. s (e ∙ sym q)))
+  item-passed s = rw (ne-eqb sort (code (w .kind)) (λ q. s (q ∙ sym e)))
 
 -- 3. The names of labels
 
@@ -86,7 +80,7 @@ module _ (filter : List ℕ) (w : What) {b : Bool} (e : b ≡ w .labels) where
   unfolding addedAll labelNamed
   label-passed f = rw (← e, f)
 
--- 4. Names of items one after the other, and of the stitches
+-- 4. Names of items one after the other
 
 added-append : (vs ws : List Bytes) (filter : List ℕ) → addedAll filter (vs ++ ws) ≡ addedAll (addedAll filter vs) ws
 unfolding addedAll
@@ -94,39 +88,20 @@ added-append [] ws filter = refl
 added-append (v ∷ vs) ws filter = added-append vs ws (added filter v)
 
 -- of the names that items give, those of the items from number i on are left to be added
-pub record ItemsLeft (names : What → List Bytes) (start : List ℕ) (body : List Item) (filter : List ℕ) (i : ℕ) : Type 0 where
-  pub rest : addedAll start (each names (whats body)) ≡ addedAll filter (each names (whats (drop i body)))
+pub record ItemsLeft (names : What → List Bytes) (start file items filter : List ℕ) (i : ℕ) : Type 0 where
+  pub rest : addedAll start (each names (whats (itemsAt file items))) ≡ addedAll filter (each names (whats (itemsAt file (drop i items))))
 
-pub items-start : (names : What → List Bytes) (filter : List ℕ) (body : List Item) → ItemsLeft names filter body filter 0
-items-start names filter body = record { rest = refl }
+pub items-start : (names : What → List Bytes) (filter file items : List ℕ) → ItemsLeft names filter file items filter 0
+items-start names filter file items = record { rest = refl }
 
-module _ {names : What → List Bytes} {start : List ℕ} {body : List Item} {filter : List ℕ} {i : ℕ} (items : ItemsLeft names start body filter i) where
-  pub items-end : length body ≤ i → filter ≡ addedAll start (each names (whats body))
+module _ {names : What → List Bytes} {start file items filter : List ℕ} {i : ℕ} (left : ItemsLeft names start file items filter i) where
+  pub items-end : length items ≤ i → filter ≡ addedAll start (each names (whats (itemsAt file items)))
   unfolding addedAll
-  items-end h = sym (items .rest ∙ rw (drop-of-length-le body h))
+  items-end h = sym (left .rest ∙ rw (drop-of-length-le items h))
 
   -- the names of item number i are added
-  pub items-next : {x : Item} → drop i body ≡ x ∷ drop (i + 1) body → {after : List ℕ} → after ≡ addedAll filter (names (x .what))
-      → ItemsLeft names start body after (i + 1)
-  items-next {x} there e = record { rest = items .rest ∙ rw (there, added-append (names (x .what)) (each names (whats (drop (i + 1) body))) filter, ← e) }
-
--- of the labels of stitches, those of the stitches from the place on are left to be added
-pub record StitchesLeft (file start : List ℕ) (from end : ℕ) (filter : List ℕ) (at : ℕ) : Type 0 where
-  pub rest : addedAll start (stitchLabels file from end) ≡ addedAll filter (stitchLabels file at end)
-
-pub stitches-start : (file filter : List ℕ) (at end : ℕ) → StitchesLeft file filter at end filter at
-stitches-start file filter at end = record { rest = refl }
-
-module _ {file start : List ℕ} {from end : ℕ} {filter : List ℕ} {at : ℕ} (left : StitchesLeft file start from end filter at)
-    (ready : StitchesReady file at end) {r : StitchViewRead} (told : r ≡ stitchViewOf file at end) where
-  pub stitches-end : r ≡ read.None → filter ≡ addedAll start (stitchLabels file from end)
-  unfolding addedAll
-  stitches-end q = sym (left .rest ∙ rw (stitches-none file at end ready told q))
-
-  -- the labels of the stitch at the place are added
-  pub stitches-next : (v : StitchView) → r ≡ read.View v → {after : List ℕ} → after ≡ addedAll filter (each labelNamed (whats (bodyIn file (v .from) (v .to))))
-      → StitchesLeft file start from end after (v .end)
-  stitches-next v q e = record {
+  pub items-next : i < length items → {after : List ℕ} → after ≡ addedAll filter (names (itemIn file (getD items i 0) .what)) → ItemsLeft names start file items after (i + 1)
+  items-next h e = record {
     rest = left .rest
-        ∙ rw (stitch-viewed file at end v told q, added-append (each labelNamed (whats (bodyIn file (v .from) (v .to)))) (stitchLabels file (v .end) end) filter, ← e);
+        ∙ rw (drop-cons items i 0 h, added-append (names (itemIn file (getD items i 0) .what)) (each names (whats (itemsAt file (drop (suc i) items)))) filter, ← e, add-one i);
   }

@@ -6,7 +6,7 @@ use mathlib.Core.List.{List, [], _∷_}
 use lib.Dec.{eqb}
 use lib.ListN.{getD, set}
 use Rattle.names.specs.Words.{Bytes, only, one-of}
-use Rattle.story.specs.Story.{What, code}
+use Rattle.records.specs.Items.{What, code}
 use Rattle.tables.specs.Tables.{slotOf}
 
 -- the filter with a word added; one without slots stays

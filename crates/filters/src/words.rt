@@ -2,10 +2,11 @@
 ghost use mathlib.Core.Path.{_≡_};
 ghost use lib.ListN.{length, replicate};
 ghost use Rattle.story.specs.Flows.{countedIn};
-ghost use Rattle.story.specs.Story.{code, words};
-ghost use Rattle.bodies.specs.Records.{itemFrom};
+ghost use Rattle.story.specs.Story.{words};
+ghost use Rattle.records.specs.Numbers.{itemIn};
 ghost use Rattle.filters.specs.Words.{added, addedAll, lacks, sortNamed};
-use bodies::items::item_name;
+use items::items::item_name;
+use items::items::sort_in;
 use names::name_at;
 use tables::hashes::hash_of;
 use tables::hashes::slot_of;
@@ -62,12 +63,11 @@ pub fn add_counted(filter: &mut [u8], s: &[u8])
     }
 }
 
-// Adds the name of the item at the place, whose sort is given, where it is of the wanted sort.
-pub fn add_item(filter: &mut [u8], wanted: u8, file: &[u8], place: usize, tag: u32, sort: u8)
-    requires { ⌜ sort ≡ code (itemFrom (now file) place tag .what .kind) ⌝ }
-    ensures { λ r. ⌜ now (filter .exit) ≡ addedAll (now (filter .entry)) (sortNamed wanted (itemFrom (now (file .entry)) place tag .what)) ⌝ }
+// Adds the name of the item where it is of the sort.
+pub fn add_item(filter: &mut [u8], sort: u8, file: &[u8], item: u32)
+    ensures { λ r. ⌜ now (filter .exit) ≡ addedAll (now (filter .entry)) (sortNamed sort (itemIn (now (file .entry)) item .what)) ⌝ }
 {
-    if sort == wanted {
-        add_word(filter, item_name(file, place, tag));
+    if sort == sort_in(item) {
+        add_word(filter, item_name(file, item));
     }
 }

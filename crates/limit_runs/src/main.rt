@@ -7,10 +7,10 @@ const KNOT: u8 = 107;
 
 const ELSEWHERE: u8 = 120;
 
-// The bytes that the message buffer wants, and the numbers that the index of a file of 524,288 bytes wants.
+// The bytes that the message buffer wants, and the numbers that the index of a file of 420,000 bytes wants.
 const MESSAGE: usize = 640;
 
-const NUMBERS: usize = 1572804;
+const NUMBERS: usize = 1259940;
 
 // Writes a number of entries.
 fn print_count(n: usize) {
@@ -132,6 +132,18 @@ fn put_diverts(space: &mut [u8], start: usize, n: usize) -> usize {
     at
 }
 
+// Puts so many calls of the empty name: six bytes each, the shortest records that are kept.
+fn put_calls(space: &mut [u8], start: usize, n: usize) -> usize {
+    let mut at = start;
+    let mut left = n;
+    while 0 < left {
+        let next = put_head(space, at, 16, 1);
+        at = put_byte(space, next, 0);
+        left -= 1;
+    }
+    at
+}
+
 // Puts records one inside the other, of so many bytes below the outermost: an output, negations and a constant.
 fn put_nested(space: &mut [u8], start: usize, below: usize) -> usize {
     let mut at = start;
@@ -216,48 +228,47 @@ fn put_gathers(space: &mut [u8]) -> usize {
     put_trailer(space, end, 0, flows)
 }
 
-// Puts a story whose root has so many diverts to the knot and a wrong one.
+// Puts a story whose root has nothing but calls: as many kept records as its length allows.
 fn put_root(space: &mut [u8], n: usize) -> usize {
-    let last = put_diverts(space, 0, n);
-    let flows = put_record(space, last, 3, ELSEWHERE);
-    let end = put_knot(space, flows, 0, KNOT, KNOT);
-    put_trailer(space, end, 0, flows)
+    let end = put_calls(space, 0, n);
+    put_trailer(space, end, 0, end)
 }
 
-// Puts the story of a case: the last record of a window and the first of the next, for windows of 512, 4,096 and 16,384 records; depths 64 and
-// 65; gathers; 1,048,576 bytes and one more; 524,288 bytes.
+// Puts the story of a case: 4,096 bytes and one more, 65,536 bytes and one more; roots of calls for each set of buffers; depths 64 and 65;
+// gathers; 1,048,576 bytes and one more; 420,000 bytes.
 fn put_case(case: u8, space: &mut [u8]) -> usize {
     match case {
-        0 => put_root(space, 511),
-        1 => put_root(space, 512),
-        2 => put_root(space, 4095),
-        3 => put_root(space, 4096),
-        4 => put_story(space, 0, 16383, ELSEWHERE),
-        5 => put_story(space, 0, 16384, ELSEWHERE),
+        0 => put_story(space, 47, 190, ELSEWHERE),
+        1 => put_story(space, 48, 190, ELSEWHERE),
+        2 => put_story(space, 20, 3117, ELSEWHERE),
+        3 => put_story(space, 21, 3117, ELSEWHERE),
+        4 => put_root(space, 679),
+        5 => put_root(space, 10919),
         6 => put_deep(space, 315),
         7 => put_deep(space, 320),
         8 => put_gathers(space),
         9 => put_globals(space, 1048556),
         10 => put_globals(space, 1048557),
-        11..=13 => put_story(space, 279, 24950, KNOT),
-        14..=255 => put_story(space, 279, 24950, ELSEWHERE),
+        11 => put_root(space, 174759),
+        12..=14 => put_story(space, 151, 19990, KNOT),
+        15..=255 => put_story(space, 151, 19990, ELSEWHERE),
     }
 }
 
-// The numbers of the index that a case lends: none beside the two longest files, and one short in case 12.
+// The numbers of the index that a case lends: none beside the longest files, and one short in case 13.
 fn numbers_of(case: u8) -> usize {
     match case {
         0..=8 => NUMBERS,
-        9..=10 => 0,
-        11 => NUMBERS,
-        12 => NUMBERS - 1,
-        13..=255 => NUMBERS,
+        9..=11 => 0,
+        12 => NUMBERS,
+        13 => NUMBERS - 1,
+        14..=255 => NUMBERS,
     }
 }
 
-// The bytes of the message buffer that a case lends: one short in case 13.
+// The bytes of the message buffer that a case lends: one short in case 14.
 fn bytes_of(case: u8) -> usize {
-    if case == 13 {
+    if case == 14 {
         return MESSAGE - 1;
     }
     MESSAGE
@@ -297,7 +308,7 @@ fn print_cases(
 fn lend(
     first: u8,
     end: u8,
-    space: &mut [u8; 524288],
+    space: &mut [u8; 420000],
     index: &mut [u32; NUMBERS],
     message: &mut [u8],
     out: &mut [u8],
@@ -305,9 +316,9 @@ fn lend(
     print_cases(first, end, space, index, message, out);
 }
 
-// Lends the buffers for files of at most 524,288 bytes.
+// Lends the buffers for files of at most 420,000 bytes.
 fn run_stories(first: u8, end: u8) {
-    let mut space = [0u8; 524288];
+    let mut space = [0u8; 420000];
     let mut index = [0u32; NUMBERS];
     let mut message = [0u8; MESSAGE];
     let mut out = [0u8; 700];
@@ -316,10 +327,10 @@ fn run_stories(first: u8, end: u8) {
 
 // Lends an array on as its bytes.
 fn lend_long(space: &mut [u8; 1048577], index: &mut [u32], message: &mut [u8], out: &mut [u8]) {
-    print_cases(9, 11, space, index, message, out);
+    print_cases(9, 12, space, index, message, out);
 }
 
-// Lends the buffers for the two longest files.
+// Lends the buffers for the longest files.
 fn run_long() {
     let mut space = [0u8; 1048577];
     let mut index = [0u32; 1];
@@ -332,5 +343,5 @@ fn run_long() {
 fn main() {
     run_stories(0, 9);
     run_long();
-    run_stories(11, 15);
+    run_stories(12, 16);
 }

@@ -14,7 +14,7 @@ use Rattle.names.proofs.Bools.{and-left, and-right}
 use Rattle.story.specs.declared.Opened.{Opened}
 use Rattle.story.specs.declared.Opened.the-variants as opened
 use Rattle.story.specs.File.{readOf}
-use Rattle.validator.specs.Check.{Report, reportAt, reportOf}
+use Rattle.validator.specs.Check.{reportAt, reportOf}
 use Rattle.validator.proofs.Examples.{digit, hex, Row, row, reported, table, examples}
 use Rattle.lines.specs.Lines.{digits, ended, breachLine, resultLine, reportLine, inputLine}
 use Rattle.lines.proofs.Reported.{long-input, short-input}

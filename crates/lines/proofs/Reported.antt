@@ -10,7 +10,7 @@ use lib.Seq.{length-take-le, take-append-seam}
 use borrow.Author.Tests.{lt-ltb, le-ltb}
 use Rattle.fields.specs.Bytes.{pick}
 use Rattle.names.specs.Words.{Bytes}
-use Rattle.records.specs.Window.{overlay}
+use Rattle.records.specs.Buffers.{overlay}
 use Rattle.story.specs.declared.Opened.{Opened}
 use Rattle.story.specs.declared.Opened.the-variants as opened
 use Rattle.story.specs.Story.{Story}

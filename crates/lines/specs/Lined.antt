@@ -3,7 +3,7 @@ use Prim.Native.Nat.{ℕ}
 use mathlib.Core.Path.{_≡_}
 use mathlib.Core.List.{List}
 use lib.ListN.{length}
-use Rattle.records.specs.Window.{overlay}
+use Rattle.records.specs.Buffers.{overlay}
 use Rattle.messages.specs.Messages.{Wrote}
 use Rattle.validator.specs.declared.Answer.{Answer}
 use Rattle.validator.specs.Checked.{Checked}

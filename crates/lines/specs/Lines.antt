@@ -8,7 +8,7 @@ use Rattle.fields.specs.Bytes.{pick}
 use Rattle.names.specs.Words.{Bytes}
 use Rattle.names.specs.Text.{ascii}
 use Rattle.validator.specs.declared.Answer.{Answer}
-use Rattle.validator.specs.Results.{Judged, accepted, breach, Result, refused, checked, resultOf}
+use Rattle.validator.specs.Results.{accepted, breach, Result, refused, checked, resultOf}
 use Rattle.validator.specs.Check.{Report, refusing, reportOf}
 
 -- a number below 10 ^ k in decimal, with no zeros in front; where k is 0, nothing

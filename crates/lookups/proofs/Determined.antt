@@ -1,7 +1,6 @@
 -- 01's number and values determine the answer of a lookup: `determined`. Assumes nothing.
 use mathlib.Core.Path.{_≡_, refl, sym, _∙_, ap}
 use mathlib.Core.List.{[], _∷_}
-use Prim.Native.Nat.{ℕ}
 use lib.ListN.{getD}
 use Rattle.fields.proofs.Refusals.{byNumber, refusal-at}
 use Rattle.lookups.specs.declared.Target.{Target}

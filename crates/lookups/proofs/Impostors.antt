@@ -1,5 +1,5 @@
 -- Wrong lookups, refuted: on a small file, with an index that is long enough, the wrong answer does not meet the contract of a lookup. Assumes nothing.
-use mathlib.Core.Path.{_≡_, refl, sym, _∙_, ap}
+use mathlib.Core.Path.{_≡_, refl, _∙_, ap}
 use mathlib.Core.List.{List, [], _∷_}
 use Prim.Native.Nat.{ℕ, _≤_}
 use native.Mathlib.Omega.{arith}
@@ -11,10 +11,10 @@ use Rattle.fields.specs.Refusals.{refusalNumber}
 use Rattle.names.specs.Words.{Bytes}
 use Rattle.records.specs.Trace.{andThen, shift, met, ends}
 use Rattle.records.specs.Grammar.{repeatN, repeat, namedAt, nodes}
-use Rattle.records.specs.Window.{overlay}
+use Rattle.records.specs.Buffers.{overlay}
 use Rattle.story.specs.declared.Sections.{Sections}
 use Rattle.story.specs.declared.Opened.the-variants as opened
-use Rattle.story.specs.Items.{itemsAs, itemsIn}
+use Rattle.records.specs.Items.{itemsAs, itemsIn}
 use Rattle.story.specs.Flows.{names, flows, namesN, namesIn, part, piecesN, piecesIn, flowsIn}
 use Rattle.story.specs.File.{marked, startAt, openedOf, sectionsRead, readEnded, readAt, readOf, storyIn}
 use Rattle.symbols.specs.Index.{labelled, entries}
@@ -24,8 +24,8 @@ use Rattle.symbols.specs.Rows.{firstOf}
 use Rattle.lookups.specs.declared.Target.the-variants as target
 use Rattle.lookups.specs.declared.LookupAnswer.{LookupAnswer}
 use Rattle.lookups.specs.declared.LookupAnswer.the-variants.{Refused, Answered}
-use Rattle.lookups.specs.Results.{exact, Result, refused, answered, answerOf, resultOf}
-use Rattle.lookups.specs.Lookup.{endingOf, entryOf, targetOf, lookupAt, lookupOf, indexAt, lookupIndex, Looked}
+use Rattle.lookups.specs.Results.{exact, answered, answerOf, resultOf}
+use Rattle.lookups.specs.Lookup.{entryOf, targetOf, lookupAt, lookupOf, indexAt, lookupIndex, Looked}
 
 -- a file with the global x alone: starts 0, 2, 2, 2, and the mark
 unfoldable pub globalFile : List ℕ

@@ -1,8 +1,8 @@
 -- What a lookup promises follows from its two equations. Assumes nothing.
-use mathlib.Core.Path.{_≡_, refl, sym, _∙_, ap}
+use mathlib.Core.Path.{_≡_, refl, sym, _∙_}
 use mathlib.Core.Bool.{Bool, true, false}
-use mathlib.Core.List.{List, [], _∷_}
-use Prim.Native.Nat.{ℕ, _-_, _≤_}
+use mathlib.Core.List.{List}
+use Prim.Native.Nat.{ℕ, _-_}
 use native.Mathlib.Omega.{arith}
 use lib.ListN.{length}
 use lib.Dec.{ltb}
@@ -19,7 +19,7 @@ use Rattle.symbols.specs.Numbers.{indexRoom}
 use Rattle.symbols.specs.Placed.{indexOf}
 use Rattle.symbols.proofs.Searched.{FirstAt}
 use Rattle.lookups.specs.declared.LookupAnswer.{LookupAnswer}
-use Rattle.lookups.specs.Results.{Answer, Result, refused, answered, resultOf}
+use Rattle.lookups.specs.Results.{Answer, refused, answered, resultOf}
 use Rattle.lookups.specs.Lookup.{targetOf, answeredOf, lookupAt, lookupOf, indexAt, lookupIndex, Looked}
 use Rattle.lookups.specs.Meaning.{Matches, Meant}
 use Rattle.lookups.proofs.Meaning.{exact-matches, ending-matches, missing-means}

@@ -1,6 +1,8 @@
 // A target looked up in a story file, without regard to where a divert stands.
 ghost use mathlib.Core.Path.{_≡_};
 ghost use mathlib.Core.List.{_∷_};
+ghost use Prim.Native.Nat.{_≤_, _*_};
+ghost use lib.ListN.{length};
 ghost use Rattle.names.specs.Words.{same, ends};
 ghost use Rattle.story.specs.File.{storyIn, InOrder};
 ghost use Rattle.symbols.specs.Rows.{spellingsIn, firstOf};
@@ -10,8 +12,8 @@ use fields::Refusal;
 use names::is_reserved;
 use names::passes;
 use searches::is_function_name;
-use story::Opened;
 use story::Sections;
+use story::StoryRead;
 use story::read;
 use symbols::Found;
 use symbols::entries::write_index;
@@ -75,19 +77,19 @@ fn lookup_target(file: &[u8], c: Sections, index: &[u32], count: usize, target: 
     lookup_entry(file, index, count, target)
 }
 
-// Looks the target up: reads the file, writes the index as a check does, and finds what the target is.
-pub fn lookup(file: &[u8], index: &mut [u32], target: &[u8]) -> LookupAnswer
+// Looks the target up, with a buffer for the kept numbers that is a sixth as long as the file, if that is not too long to be read.
+fn lookup_in(file: &[u8], index: &mut [u32], target: &[u8], items: &mut [u32]) -> LookupAnswer
+    requires { ⌜ (length (now file) ≤ 1048576 → length (now file) ≤ 6 * length (now items)) ⌝ }
     ensures { λ r. ⌜ Looked (now (file .entry)) (now (index .entry)) (now (target .entry)) r (now (index .exit)) ⌝ }
 {
-    let opened = read(file);
-    match opened {
-        Opened::Refused(r) => LookupAnswer::Refused(r),
-        Opened::At(c) => {
+    let answer = read(file, items);
+    match answer {
+        StoryRead::Refused(r) => LookupAnswer::Refused(r),
+        StoryRead::At(c, n, _) => {
             if index.len() < 3 * c.end {
                 return LookupAnswer::ShortIndex;
             }
-            let mut batch = [0u32; 1024];
-            let count = write_index(file, c, index, &mut batch);
+            let count = write_index(file, c, &items[..n], index);
             let found = lookup_target(file, c, index, count, target);
             LookupAnswer::Answered(Answered {
                 target: found,
@@ -95,4 +97,43 @@ pub fn lookup(file: &[u8], index: &mut [u32], target: &[u8]) -> LookupAnswer
             })
         }
     }
+}
+
+// The same in a file of at most 4,096 bytes, with a buffer of some 3 KB.
+fn lookup_short(file: &[u8], index: &mut [u32], target: &[u8]) -> LookupAnswer
+    requires { ⌜ length (now file) ≤ 4096 ⌝ }
+    ensures { λ r. ⌜ Looked (now (file .entry)) (now (index .entry)) (now (target .entry)) r (now (index .exit)) ⌝ }
+{
+    let mut items = [0u32; 683];
+    lookup_in(file, index, target, &mut items)
+}
+
+// The same in a file of at most 65,536 bytes, with a buffer of some 44 KB.
+fn lookup_middling(file: &[u8], index: &mut [u32], target: &[u8]) -> LookupAnswer
+    requires { ⌜ length (now file) ≤ 65536 ⌝ }
+    ensures { λ r. ⌜ Looked (now (file .entry)) (now (index .entry)) (now (target .entry)) r (now (index .exit)) ⌝ }
+{
+    let mut items = [0u32; 10923];
+    lookup_in(file, index, target, &mut items)
+}
+
+// The same in a longer file, with a buffer of some 700 KB.
+fn lookup_long(file: &[u8], index: &mut [u32], target: &[u8]) -> LookupAnswer
+    ensures { λ r. ⌜ Looked (now (file .entry)) (now (index .entry)) (now (target .entry)) r (now (index .exit)) ⌝ }
+{
+    let mut items = [0u32; 174763];
+    lookup_in(file, index, target, &mut items)
+}
+
+// Looks the target up: reads the file, writes the index as a check does, and finds what the target is.
+pub fn lookup(file: &[u8], index: &mut [u32], target: &[u8]) -> LookupAnswer
+    ensures { λ r. ⌜ Looked (now (file .entry)) (now (index .entry)) (now (target .entry)) r (now (index .exit)) ⌝ }
+{
+    if file.len() <= 4096 {
+        return lookup_short(file, index, target);
+    }
+    if file.len() <= 65536 {
+        return lookup_middling(file, index, target);
+    }
+    lookup_long(file, index, target)
 }

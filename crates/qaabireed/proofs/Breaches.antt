@@ -6,7 +6,8 @@ use Prim.Native.Nat.{ℕ, _≤_, _<_, _^_}
 use native.Mathlib.Omega.{arith}
 use lib.Dec.{lit<}
 use Rattle.names.specs.Words.{_∈_}
-use Rattle.story.specs.Story.{Name, parameter, Item, Stitch, Flow, Story}
+use Rattle.records.specs.Items.{parameter, Item}
+use Rattle.story.specs.Story.{Name, Stitch, Flow, Story}
 use Rattle.symbols.specs.Numbers.{absent}
 use Rattle.rules.specs.declared.Rule.{Rule}
 use Rattle.rules.specs.declared.Rule.the-variants.{FunctionDivertedTo, TargetNotFound, FlowCalled, NameIsFunction, NameIsGlobal, TempIsParameter, TempIsLabel, ParameterUnmarked, ParameterAlreadyMarked, GatherRepeated, ChoiceUndiverted, FunctionWithStitches, FunctionWithChoice, FunctionWithDivert, VariableForbidden}

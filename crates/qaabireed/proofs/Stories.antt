@@ -11,8 +11,8 @@ use Rattle.records.specs.Grammar.{Reading, ending}
 use Rattle.records.proofs.Places.{lies-within}
 use Rattle.story.specs.declared.Sections.{Sections}
 use Rattle.story.specs.declared.Heading.{Heading}
-use Rattle.story.specs.Story.{Name, Item, Stitch, Flow, Story}
-use Rattle.story.specs.Items.{nameIn, itemsIn}
+use Rattle.records.specs.Items.{Item, nameIn, itemsIn}
+use Rattle.story.specs.Story.{Name, Stitch, Flow, Story}
 use Rattle.story.specs.Flows.{stitch, flow, countedIn, part, stitchIn, flowIn, flowsIn, stitches}
 use Rattle.story.specs.File.{storyIn}
 use Rattle.story.proofs.Unfolding.{titled-in, flow-in}

@@ -9,7 +9,7 @@ use lib.Seq.{sets, sets-eq}
 use borrow.Author.Tests.{lt-ltb, le-ltb}
 use Rattle.fields.specs.declared.Refusal.{Refusal}
 use Rattle.fields.specs.Refusals.{refusalNumber}
-use Rattle.records.specs.Window.{overlay}
+use Rattle.records.specs.Buffers.{overlay}
 use Rattle.validator.specs.declared.Breach.{Breach}
 use Rattle.validator.specs.declared.Answer.{Answer}
 use Rattle.validator.specs.declared.Answer.the-variants.{Accepted, Breached, Unreadable}

@@ -6,7 +6,7 @@ use mathlib.Core.List.{List}
 use lib.ListN.{length}
 use lib.Dec.{ltb}
 use Rattle.fields.specs.Bytes.{pick}
-use Rattle.records.specs.Window.{overlay}
+use Rattle.records.specs.Buffers.{overlay}
 use Rattle.validator.specs.declared.Answer.{Answer}
 use Rattle.validator.specs.Results.{resultOf}
 use Rattle.validator.specs.Check.{reportOf}

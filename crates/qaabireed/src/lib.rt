@@ -3,7 +3,7 @@ ghost use mathlib.Core.Path.{_≡_};
 ghost use mathlib.Core.List.{[], _∷_};
 ghost use Prim.Native.Nat.{_≤_, _<_, _^_};
 ghost use lib.ListN.{length};
-ghost use Rattle.records.specs.Window.{overlay};
+ghost use Rattle.records.specs.Buffers.{overlay};
 ghost use Rattle.validator.specs.Results.{resultOf};
 ghost use Rattle.lookups.specs.Results as lookup;
 ghost use Rattle.lookups.specs.Results.{answerOf};

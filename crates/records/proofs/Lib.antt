@@ -1,8 +1,10 @@
 -- What the proofs of several functions use, and the laws that other crates cite.
 pub mod Traces
 pub mod Readings
+pub mod Tables
+pub mod Marks
 pub mod Walking
+pub mod Bare
 pub mod Places
-pub mod Notes
+pub mod Keeping
 pub mod Moved
-pub mod Windows

@@ -42,14 +42,14 @@ drop-take (suc p) zero s = rw (zero-sub (suc p))
 drop-take (suc p) (suc n) [] = simp (unary-clauses, take-nil)
 drop-take (suc p) (suc n) (x ∷ s) = simp unary-clauses (drop-take p n s)
 
-stands-drop : (a : ℕ) (s : List ℕ) {p kind : ℕ} {bs : List ℕ} → Stands (drop a s) p kind bs → Stands s (a + p) kind bs
+pub stands-drop : (a : ℕ) (s : List ℕ) {p kind : ℕ} {bs : List ℕ} → Stands (drop a s) p kind bs → Stands s (a + p) kind bs
 stands-drop a s {p} h = record { head = rw (drop-drop p a s) at (h .head); behind = rw (drop-drop (p + 5) a s, ← add-assoc a p 5) at (h .behind) }
 
 -- it ends where the bytes end, or before
 pub stands-fits : (s : List ℕ) {p kind : ℕ} {bs : List ℕ} → Stands s p kind bs → p + 5 + length bs ≤ length s
 stands-fits s {p} {kind} {bs} h = omega (arith, head-fits (drop p s) kind (length bs) refl (h .head), length-drop p s)
 
-stands-take : (n : ℕ) (s : List ℕ) {p kind : ℕ} {bs : List ℕ} → Stands (take n s) p kind bs → Stands s p kind bs
+pub stands-take : (n : ℕ) (s : List ℕ) {p kind : ℕ} {bs : List ℕ} → Stands (take n s) p kind bs → Stands s p kind bs
 stands-take n s {p} {kind} {bs} h =
     let fits : p + 5 + length bs ≤ length (take n s) = stands-fits (take n s) h in
     record {
@@ -59,32 +59,32 @@ stands-take n s {p} {kind} {bs} h =
 
 -- 2. Placed: each record of a trace stands in s, at places that rise, from lo on and below hi
 
-Placed : List ℕ → ℕ → ℕ → Trace → Type 0
+unfoldable pub Placed : List ℕ → ℕ → ℕ → Trace → Type 0
 Placed s lo hi done = Unit {0}
 Placed s lo hi (refuse r) = Unit {0}
 Placed s lo hi (emit role kind p bs t) = ((lo ≤ p) × (p < hi)) × Stands s p kind bs × Placed s (suc p) hi t
 
 module _ (s : List ℕ) where
-  placed-wider : {lo hi lo′ hi′ : ℕ} (t : Trace) → lo′ ≤ lo → hi ≤ hi′ → Placed s lo hi t → Placed s lo′ hi′ t
+  pub placed-wider : {lo hi lo′ hi′ : ℕ} (t : Trace) → lo′ ≤ lo → hi ≤ hi′ → Placed s lo hi t → Placed s lo′ hi′ t
   unfolding Placed
   placed-wider done p q h = tt
   placed-wider (refuse r) p q h = tt
   placed-wider (emit role kind a bs t) p q h = (omega (arith, h .0), h .1, placed-wider t (omega arith) q (h .2))
 
-  placed-then : {lo mid hi : ℕ} (t u : Trace) → lo ≤ mid → mid ≤ hi → Placed s lo mid t → Placed s mid hi u → Placed s lo hi (andThen t u)
+  pub placed-then : {lo mid hi : ℕ} (t u : Trace) → lo ≤ mid → mid ≤ hi → Placed s lo mid t → Placed s mid hi u → Placed s lo hi (andThen t u)
   unfolding Placed andThen
   placed-then done u p q g h = placed-wider u p (omega arith) h
   placed-then (refuse r) u p q g h = tt
   placed-then (emit role kind a bs t) u p q g h = (omega (arith, g .0), g .1, placed-then t u (omega (arith, g .0)) q (g .2) h)
 
-  placed-drop : (a lo hi : ℕ) (t : Trace) → Placed (drop a s) lo hi t → Placed s (a + lo) (a + hi) (shift a t)
+  pub placed-drop : (a lo hi : ℕ) (t : Trace) → Placed (drop a s) lo hi t → Placed s (a + lo) (a + hi) (shift a t)
   unfolding Placed shift
   placed-drop a lo hi done h = tt
   placed-drop a lo hi (refuse r) h = tt
   placed-drop a lo hi (emit role kind p bs t) h =
       (omega (arith, h .0), stands-drop a s (h .1), placed-wider (shift a t) (omega arith) (omega arith) (placed-drop a (suc p) hi t (h .2)))
 
-  placed-take : (n lo hi : ℕ) (t : Trace) → Placed (take n s) lo hi t → Placed s lo hi t
+  pub placed-take : (n lo hi : ℕ) (t : Trace) → Placed (take n s) lo hi t → Placed s lo hi t
   unfolding Placed
   placed-take n lo hi done h = tt
   placed-take n lo hi (refuse r) h = tt
@@ -93,18 +93,18 @@ module _ (s : List ℕ) where
 -- 3. The grammar: each reading places its records within its bytes, and each reader of a record within the record
 
 -- the records of a reading are placed
-abbrev Places : Reading → Type 0
+abbrev pub Places : Reading → Type 0
 Places k = (s : List ℕ) → Placed s 0 (length s) (k s)
 
 -- those of a record, by its reader
 abbrev PlacesRecord : Reader → Type 0
 PlacesRecord f = (s : List ℕ) (kind n : ℕ) → headOf s ≡ head.Piece kind n → Placed s 0 (5 + n) (f kind (take n (drop 5 s)))
 
-rest-placed : (a : ℕ) (s : List ℕ) (k : Reading) → Places k → a ≤ length s → Placed s a (length s) (shift a (k (drop a s)))
+pub rest-placed : (a : ℕ) (s : List ℕ) (k : Reading) → Places k → a ≤ length s → Placed s a (length s) (shift a (k (drop a s)))
 rest-placed a s k h fits =
     placed-wider s (shift a (k (drop a s))) (omega arith) (omega (arith, length-drop a s)) (placed-drop s a 0 (length (drop a s)) (k (drop a s)) (h (drop a s)))
 
-part-placed : (a n : ℕ) (s : List ℕ) (k : Reading) → Places k → a + n ≤ length s → Placed s a (a + n) (shift a (k (take n (drop a s))))
+pub part-placed : (a n : ℕ) (s : List ℕ) (k : Reading) → Places k → a + n ≤ length s → Placed s a (a + n) (shift a (k (take n (drop a s))))
 part-placed a n s k h fits =
     placed-wider s (shift a (k (take n (drop a s)))) (omega arith) (omega (arith, length-take n (drop a s), length-drop a s))
     (placed-drop s a 0 (length (take n (drop a s))) (k (take n (drop a s)))
@@ -120,12 +120,12 @@ front-places f k g h s = by-head (headOf s) refl
         placed-then s (f kind (take n (drop 5 s))) (shift (5 + n) (k (drop (5 + n) s))) (omega arith) fits (g s kind n e) (rest-placed (5 + n) s k h fits)
     by-head head.Cut e = tt
 
-ending-places : Places ending
+pub ending-places : Places ending
 unfolding ending Placed
 ending-places [] = tt
 ending-places (x ∷ s) = tt
 
-repeat-places : (g : Reading → Reading) → ((k : Reading) → Places k → Places (g k)) → Places (repeat g)
+pub repeat-places : (g : Reading → Reading) → ((k : Reading) → Places k → Places (g k)) → Places (repeat g)
 unfolding repeat repeatN Placed
 repeat-places g h s = pieces (length s) s
   where
@@ -154,7 +154,7 @@ listed-places f k g h s = by-span (listOf s) refl
         (placed-wider s (shift 4 inside) (omega arith) (omega arith) (part-placed 4 n s (records f) (records-places f g) fits)) (rest-placed (4 + n) s k h fits)
     by-span span.Cut e = tt
 
-named-places : (k : Reading) → Places k → Places (named k)
+pub named-places : (k : Reading) → Places k → Places (named k)
 unfolding namedAt Placed
 named-places k h s = by-name (nameOf s) refl
   where
@@ -162,7 +162,7 @@ named-places k h s = by-name (nameOf s) refl
     by-name (name.Bytes n) e = placed-wider s (shift (1 + n) (k (drop (1 + n) s))) (omega arith) (omega arith) (rest-placed (1 + n) s k h (name-fits s n refl e))
     by-name (name.Refused r) e = tt
 
-flagged-places : (j k : Reading) → Places j → Places k → Places (flagged j k)
+pub flagged-places : (j k : Reading) → Places j → Places k → Places (flagged j k)
 unfolding flaggedAt Placed
 flagged-places j k g h s = by-flag (flagOf s) refl
   where
@@ -230,14 +230,14 @@ record-places zero role s kind n e = by-kind (kindOf role kind)
     by-kind kinded.None = tt
 record-places (suc left) role s kind n e = whole-places (recordOf left) (record-places left) (kindOf role kind) role s kind n e
 
-nodes-places : Places nodes
+pub nodes-places : Places nodes
 unfolding nodes
 nodes-places s = records-places (recordOf 64 Node) (record-places 64 Node) s
 
 -- 4. The records met
 
 -- a record met is one of the trace
-met-placed : (s : List ℕ) (lo hi b : ℕ) (t : Trace) → Placed s lo hi t → (r : Record) → List·Memᴰ r (met b t)
+pub met-placed : (s : List ℕ) (lo hi b : ℕ) (t : Trace) → Placed s lo hi t → (r : Record) → List·Memᴰ r (met b t)
     → (p : ℕ) × (r .place ≡ b + p) × ((lo ≤ p) × (p < hi)) × Stands s p (r .kind) (r .payload)
 unfolding Placed met
 met-placed s lo hi b done h r m = absurd (List·Memᴰ·not-nil m)
@@ -256,14 +256,15 @@ met-placed s lo hi b (emit role kind p bs t) h r m = by-cases (λ i. met-placed 
 abbrev pub Before : Record → Record → Type 0
 Before x y = x .place < y .place
 
-met-rising : (s : List ℕ) (lo hi b : ℕ) (t : Trace) → Placed s lo hi t → Sorted Before (met b t)
+pub met-rising : (s : List ℕ) (lo hi b : ℕ) (t : Trace) → Placed s lo hi t → Sorted Before (met b t)
 unfolding Placed met
 met-rising s lo hi b done h = tt
 met-rising s lo hi b (refuse x) h = tt
 met-rising s lo hi b (emit role kind p bs t) h =
     (λ y m. let x = met-placed s (suc p) hi b t (h .2) y m in omega (arith, x .1, x .2), met-rising s (suc p) hi b t (h .2))
 
-met-count : (s : List ℕ) (lo hi b : ℕ) (t : Trace) → lo ≤ hi → Placed s lo hi t → lo + length (met b t) ≤ hi
+-- there are no more records than places for them
+pub met-count : (s : List ℕ) (lo hi b : ℕ) (t : Trace) → lo ≤ hi → Placed s lo hi t → lo + length (met b t) ≤ hi
 unfolding Placed met
 met-count s lo hi b done p h = omega arith
 met-count s lo hi b (refuse x) p h = omega arith
@@ -272,10 +273,6 @@ met-count s lo hi b (emit role kind a bs t) p h = omega (arith, h .0, met-count 
 -- places rise strictly
 pub places-rise : (b : ℕ) (s : List ℕ) → Sorted Before (met b (nodes s))
 places-rise b s = met-rising s 0 (length s) b (nodes s) (nodes-places s)
-
--- there are no more records than bytes
-pub met-few : (b : ℕ) (s : List ℕ) → length (met b (nodes s)) ≤ length s
-met-few b s = omega (arith, met-count s 0 (length s) b (nodes s) (omega arith) (nodes-places s))
 
 -- a record lies within the bytes, which stand at b
 pub lies-within : (b : ℕ) (s : List ℕ) (r : Record) → List·Memᴰ r (met b (nodes s)) → (b ≤ r .place) × (r .place + 5 + length (r .payload) ≤ b + length s)

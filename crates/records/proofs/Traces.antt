@@ -46,11 +46,11 @@ module _ {S : Type 0} (v : Visitor S) (b : ℕ) where
   unfolding run andThen bind
   run-then s done u = refl
   run-then s (refuse r) u = refl
-  run-then s (emit role kind p bs t) u = run-then (v s role kind (b + p)) t u
+  run-then s (emit role kind p bs t) u = run-then (v s role kind (b + p) bs) t u
 
   -- places k further are the same places from k further
   pub run-shift : (k : ℕ) (s : S) (t : Trace) → run v b s (shift k t) ≡ run v (b + k) s t
   unfolding run shift
   run-shift k s done = refl
   run-shift k s (refuse r) = refl
-  run-shift k s (emit role kind p bs t) = rw (add-assoc b k p) (run-shift k (v s role kind (b + (k + p))) t)
+  run-shift k s (emit role kind p bs t) = rw (add-assoc b k p) (run-shift k (v s role kind (b + (k + p)) bs) t)

@@ -6,7 +6,7 @@ use Prim.Native.Nat.{ℕ, zero, suc, _+_, _-_, _≤_, _<_}
 use native.Mathlib.Nat.{add-zero}
 use native.Mathlib.Numerals.{sub-one}
 use native.Mathlib.Omega.{arith}
-use lib.ListN.{length, getD, take, drop}
+use lib.ListN.{length, getD, take, drop, length-take}
 use borrow.Author.Tests.{lt-ltb, le-ltb}
 use Rattle.fields.specs.declared.Refusal.{Refusal}
 use Rattle.fields.specs.declared.Refusal.the-variants.{Short, Unknown, Deep}
@@ -31,8 +31,8 @@ use Rattle.records.specs.declared.Walk.the-variants as walk
 use Rattle.records.specs.Trace.{Trace, done, refuse, andThen, shift}
 use Rattle.records.specs.Grammar.{Reading, Reader, frontAt, front, nothing, ending, records, listedAt, listed, namedAt, named, flaggedAt, flagged, moded, tested, branch, bodyOf, whole, tooDeep, recordOf}
 use Rattle.records.specs.Work.{St, st, Ran, ended, broke, Visitor, bind, run, walkOf, ranOut, Told, endOf}
-use Rattle.records.proofs.Traces.{run-then, run-shift, then-done, shift-done}
-use Rattle.records.proofs.Readings.{front-then, tested-then}
+use Rattle.records.proofs.Traces.{then-done, shift-done, run-then, run-shift}
+use Rattle.records.proofs.Readings.{front-then, tested-then, repeat-none}
 
 -- 1. What an answer and what was written say. `x` is the run of a part, and `k` what follows it.
 
@@ -64,12 +64,16 @@ module _ (v : Visitor St) (b : ℕ) (s₀ : St) where
   unfolding run walkOf ranOut
   told-done t e = rw e (record { answer = refl; written = refl })
 
+  told-done-at : (a : ℕ) (t : Trace) → t ≡ done → Told (run v a s₀ t) (walk.Done (s₀ .n)) (s₀ .out)
+  unfolding run walkOf ranOut
+  told-done-at a t e = rw e (record { answer = refl; written = refl })
+
   -- a piece, then what follows it
-  then-on : (p q : Trace) (e m : ℕ) {w : Walk} {o : List ℕ} → Told (run v b s₀ p) w o → w ≡ walk.Done m → run v b s₀ (andThen p (shift e q)) ≡ run v (b + e) (st o m) q
+  pub then-on : (p q : Trace) (e m : ℕ) {w : Walk} {o : List ℕ} → Told (run v b s₀ p) w o → w ≡ walk.Done m → run v b s₀ (andThen p (shift e q)) ≡ run v (b + e) (st o m) q
   unfolding bind
   then-on p q e m g z = rw (run-then v b s₀ p (shift e q), told-ended (run v b s₀ p) g z) (run-shift v b e (st _ m) q)
 
-  then-else : (p q : Trace) {w : Walk} {o : List ℕ} → Told (run v b s₀ p) w o → ((m : ℕ) → w ≡ walk.Done m → ⊥) → Told (run v b s₀ (andThen p q)) w o
+  pub then-else : (p q : Trace) {w : Walk} {o : List ℕ} → Told (run v b s₀ p) w o → ((m : ℕ) → w ≡ walk.Done m → ⊥) → Told (run v b s₀ (andThen p q)) w o
   then-else p q g other = rw (run-then v b s₀ p q) (bind-else (run v b s₀ p) (λ u. run v b u q) g other)
 
   -- a record
@@ -131,6 +135,14 @@ module _ (v : Visitor St) (b : ℕ) (s₀ : St) where
   unfolding namedAt
   named-on k s l e q = rw (to-end (1 + l) s, ← e, q) (run-shift v b (1 + l) s₀ (k (drop (1 + l) s)))
 
+  -- a name, and no record after it
+  pub named-none : (f : Reader) (s : List ℕ) (l : ℕ) {r : NameRead} → r ≡ nameOf s → r ≡ name.Bytes l → 1 + l ≡ length s
+      → Told (run v b s₀ (named (records f) s)) (walk.Done (s₀ .n)) (s₀ .out)
+  named-none f s l e q z =
+      let rest = take (length s - (1 + l)) (drop (1 + l) s) in
+      rw (named-on (records f) s l e q)
+      (told-done-at (b + (1 + l)) (records f rest) (repeat-none (front f) rest (omega (arith, length-take (length s - (1 + l)) (drop (1 + l) s), z))))
+
   -- a flag
   pub flagged-refused : (j k : Reading) (s : List ℕ) (x : Refusal) {r : FlagRead} → r ≡ flagOf s → r ≡ flag.Refused x → Told (run v b s₀ (flagged j k s)) (walk.Refused x) (s₀ .out)
   unfolding flaggedAt
@@ -168,11 +180,11 @@ module _ (v : Visitor St) (b : ℕ) (s₀ : St) where
 
   -- a record of a known kind: noted, then its payload
   whole-run : (c : Body) (f : Role → Reader) (role : Role) (kind : ℕ) (s : List ℕ)
-      → run v b s₀ (whole (kinded.Known c) f role kind s) ≡ run v (b + 5) (v s₀ role kind b) (bodyOf c f s)
+      → run v b s₀ (whole (kinded.Known c) f role kind s) ≡ run v (b + 5) (v s₀ role kind b s) (bodyOf c f s)
   unfolding run whole
   whole-run c f role kind s =
-      run-shift v b 5 (v s₀ role kind (b + 0)) (bodyOf c f s)
-      ∙ ap (λ p. run v (b + 5) (v s₀ role kind p) (bodyOf c f s)) (add-zero b)
+      run-shift v b 5 (v s₀ role kind (b + 0) s) (bodyOf c f s)
+      ∙ ap (λ p. run v (b + 5) (v s₀ role kind p s) (bodyOf c f s)) (add-zero b)
 
   record-step : (left : ℕ) (role : Role) (kind : ℕ) (s : List ℕ) (c : Body) {r : Kinded} → r ≡ kindOf role kind → r ≡ kinded.Known c → (left ≡ 0 → ⊥)
       → recordOf left role kind s ≡ whole (kinded.Known c) (recordOf (left - 1)) role kind s
@@ -192,7 +204,7 @@ module _ (v : Visitor St) (b : ℕ) (s₀ : St) where
   record-deep left role kind s c e q p = rw (p, ← e, q) (told-refused (refuse Deep) Deep refl)
 
   pub record-on : (left : ℕ) (role : Role) (kind : ℕ) (s : List ℕ) (c : Body) {r : Kinded} {u : St} → r ≡ kindOf role kind → r ≡ kinded.Known c → (left ≡ 0 → ⊥)
-      → u ≡ v s₀ role kind b
+      → u ≡ v s₀ role kind b s
       → run v b s₀ (recordOf left role kind s) ≡ run v (b + 5) u (bodyOf c (recordOf (left - 1)) s)
   record-on left role kind s c e q p g = rw (record-step left role kind s c e q p, g) (whole-run c (recordOf (left - 1)) role kind s)
 

@@ -1,26 +1,30 @@
--- A walk as it goes: the buffer and the number of records met so far.
-use Prim.Native.Nat.{ℕ, _+_, _-_, _*_, _/_, _%_, _^_}
+-- Inner contract. A walk as it goes: the buffer, and how many records were kept and met so far.
+use Prim.Native.Nat.{ℕ, _+_, _*_, _%_, _^_}
 use mathlib.Core.Path.{_≡_}
-use mathlib.Core.List.{List, [], _∷_}
+use mathlib.Core.List.{List, [], _∷_, map}
 use lib.ListN.{length, set}
-use lib.Dec.{ltb}
 use Rattle.fields.specs.declared.Refusal.{Refusal}
 use Rattle.fields.specs.declared.Refusal.the-variants.{Short}
 use Rattle.fields.specs.declared.Role.{Role}
+use Rattle.fields.specs.declared.Body.the-variants.{Exprs}
+use Rattle.fields.specs.declared.Kinded.the-variants.{Known}
+use Rattle.fields.specs.Kinds.{kindOf}
 use Rattle.fields.specs.Bytes.{pick}
-use Rattle.fields.specs.Kinds.{tagOf}
+use Rattle.records.specs.Trace.{Trace, done, refuse, emit, met, Ending, well, refused, ends}
+use Rattle.records.specs.Items.{plain, code, is, Item, sortOf, itemOf}
 use Rattle.records.specs.declared.Walk.{Walk}
 use Rattle.records.specs.declared.Walk.the-variants as walk
-use Rattle.records.specs.Trace.{Trace, done, refuse, emit}
+use Rattle.records.specs.Numbers.{numberOf, keptOf}
+use Rattle.records.specs.Buffers.{fill}
 
 -- how a run ends, with the state at the end
 pub data Ran (S : Type 0) : Type 0 where
   ended : S → Ran S
   broke : S → Refusal → Ran S
 
--- a visitor: the state, a record's role, its kind, its absolute place
+-- a visitor: the state, a record's role, its kind, its absolute place, its payload
 abbrev pub Visitor : Type 0 → Type 0
-Visitor S = S → Role → ℕ → ℕ → S
+Visitor S = S → Role → ℕ → ℕ → List ℕ → S
 
 -- on with the state, unless reading was refused
 unfoldable pub bind : {S : Type 0} → Ran S → (S → Ran S) → Ran S
@@ -31,9 +35,9 @@ bind (broke s r) k = broke s r
 unfoldable pub run : {S : Type 0} → Visitor S → ℕ → S → Trace → Ran S
 run v b s done = ended s
 run v b s (refuse r) = broke s r
-run v b s (emit role kind p bs t) = run v b (v s role kind (b + p)) t
+run v b s (emit role kind p bs t) = run v b (v s role kind (b + p) bs) t
 
--- the buffer, and how many records were met
+-- the buffer, and the two counts as one number
 pub record St : Type 0 where
   pub out : List ℕ
   pub n : ℕ
@@ -42,19 +46,19 @@ pub record St : Type 0 where
 abbrev pub st : List ℕ → ℕ → St
 st o n = record { out = o; n = n }
 
--- the count goes round at 2 ^ 64, which no file reaches
-abbrev pub next : ℕ → ℕ
-next n = (n + 1) % 2 ^ 64
+-- so many records kept and so many met, as one number
+unfoldable pub counts : ℕ → ℕ → ℕ
+counts kept all = kept + 4294967296 * all
 
--- record number n in its slot, where the window has one for it
-unfoldable pub slotted : ℕ → ℕ → ℕ → ℕ → List ℕ → List ℕ
-slotted skip n place tag out =
-    pick (ltb n skip) out
-    (pick (ltb (n - skip) (length out / 2)) (set (set out (2 * (n - skip)) place) (2 * (n - skip) + 1) tag) out)
+-- an item, in the slot of its number where it is not plain; no file reaches 2 ^ 32
+unfoldable pub keep : St → Item → St
+keep s i =
+    pick (is plain (i .what)) (st (s .out) ((s .n + 4294967296) % 2 ^ 64))
+    (st (set (s .out) (s .n % 4294967296) (numberOf i)) ((s .n + 4294967297) % 2 ^ 64))
 
--- the visitor that writes a window
-unfoldable pub noting : ℕ → Visitor St
-noting skip s role kind place = st (slotted skip (s .n) place (tagOf role kind) (s .out)) (next (s .n))
+-- the visitor that keeps
+unfoldable pub keeping : Visitor St
+keeping s role kind place bs = keep s (itemOf (record { role = role; kind = kind; place = place; payload = bs }))
 
 -- the answer
 unfoldable pub walkOf : Ran St → Walk
@@ -75,3 +79,29 @@ pub record Told (x : Ran St) (w : Walk) (o : List ℕ) : Type 0 where
 unfoldable pub endOf : ℕ → List ℕ → Walk
 endOf n [] = walk.Done n
 endOf n (x ∷ s) = walk.Refused Short
+
+-- the counts, or the refusal
+unfoldable pub walked : Ending → ℕ → Walk
+walked well n = walk.Done n
+walked (refused r) n = walk.Refused r
+
+-- the items of a trace whose bytes stand at base
+abbrev pub itemsOf : ℕ → Trace → List Item
+itemsOf base t = map itemOf (met base t)
+
+-- answer and buffer of a walk over t, whose bytes stand at base, where so many records were kept and met before it
+pub record Walked (t : Trace) (base kept all : ℕ) (before : List ℕ) (w : Walk) (after : List ℕ) : Type 0 where
+  pub answer : w ≡ walked (ends t) (counts (kept + length (keptOf (itemsOf base t))) (all + length (itemsOf base t)))
+  pub written : after ≡ fill kept (keptOf (itemsOf base t)) before
+
+-- a record of the kind has nothing inside it, and is plain
+pub record BareKind (role : Role) (kind : ℕ) : Type 0 where
+  pub inner : Role
+  pub nothing-inside : kindOf role kind ≡ Known (Exprs 0 inner)
+  pub is-plain : (payload : List ℕ) → 0 ≡ code (sortOf role kind payload)
+
+-- a record with this head, with so many levels left, is nothing but the head, and is plain
+pub record Bare (role : Role) (kind len left : ℕ) : Type 0 where
+  pub empty : len ≡ 0
+  pub some-left : left ≡ 0 → ⊥
+  pub bare : BareKind role kind

@@ -1,11 +1,16 @@
-// The walker: reads the records of a list at every depth, counts them, and notes the place and tag of those in a window.
+// The walker: reads the records of a list at every depth, counts them, and keeps a number for each that is not plain.
 ghost use mathlib.Core.Path.{_≡_};
 ghost use Prim.Native.Nat.{_+_, _<_, _^_};
 ghost use lib.ListN.{length};
 ghost use Rattle.fields.specs.declared.Role.the-variants as Role;
 ghost use Rattle.records.specs.Grammar.{recordOf, records, exact, ending, repeat, front, listed, named, flagged, last, orElse, arms, options, bodyOf, nothing, tested, branch, moded};
-ghost use Rattle.records.specs.Work.{run, st, noting, Told, endOf};
+ghost use Rattle.records.specs.Work.{run, st, keeping, Told, endOf};
 use crate::Walk;
+use crate::sorts::PLAIN;
+use crate::sorts::branch_bit;
+use crate::sorts::is_bare;
+use crate::sorts::label_bit;
+use crate::sorts::sort_of;
 use fields::Body;
 use fields::FlagRead;
 use fields::Head;
@@ -20,30 +25,30 @@ use fields::read_head;
 use fields::read_kind;
 use fields::read_list;
 use fields::read_name;
-use fields::tag;
 use fields::test_span;
 
-// Record number n of a walk: noted in its slot, where the window has one for it. Answers the next number.
-fn note(role: Role, kind: u8, place: usize, skip: usize, out: &mut [u32], n: usize) -> usize
-    requires { ⌜ place < 2 ^ 32 ⌝ }
-    ensures { λ r. ⌜ st (now (out .exit)) r ≡ noting skip (st (now (out .entry)) n) role kind place ⌝ }
+// A record, kept in its slot where it is not plain and there is one for it. Answers the counts with it.
+fn note(role: Role, kind: u8, payload: &[u8], place: usize, out: &mut [u32], n: usize) -> usize
+    requires { ⌜ place < 2 ^ 20 ⌝ }
+    ensures { λ r. ⌜ st (now (out .exit)) r ≡ keeping (st (now (out .entry)) n) role kind place (now (payload .entry)) ⌝ }
 {
-    let next = std::num::wrapping_add_usize(n, 1);
-    if n < skip {
-        return next;
+    let sort = sort_of(role, kind, payload);
+    if sort == PLAIN {
+        return std::num::wrapping_add_usize(n, 4294967296);
     }
-    let slot = n - skip;
-    if slot < out.len() / 2 {
-        let at = 2 * slot;
-        out[at] = place as u32;
-        out[at + 1] = tag(role, kind);
+    let next = std::num::wrapping_add_usize(n, 4294967297);
+    let slot = n % 4294967296;
+    if slot < out.len() {
+        let branch = branch_bit(role);
+        let label = label_bit(sort, payload);
+        out[slot] = place as u32 + 1048576 * (sort + 16 * branch + 32 * label);
         return next;
     }
     next
 }
 
 // Nothing is left.
-fn at_end(s: &[u8], n: usize) -> Walk
+pub fn at_end(s: &[u8], n: usize) -> Walk
     ensures { λ r. ⌜ r ≡ endOf n (now (s .entry)) ⌝ }
 {
     if 0 < s.len() {
@@ -53,9 +58,9 @@ fn at_end(s: &[u8], n: usize) -> Walk
 }
 
 // A name, and nothing more.
-fn single(s: &[u8], base: usize, skip: usize, out: &mut [u32], n: usize) -> Walk
-    requires { ⌜ base + length (now s) < 2 ^ 32 ⌝ }
-    ensures { λ r. ⌜ Told (run (noting skip) base (st (now (out .entry)) n) (named ending (now (s .entry)))) r (now (out .exit)) ⌝ }
+fn single(s: &[u8], base: usize, out: &mut [u32], n: usize) -> Walk
+    requires { ⌜ base + length (now s) < 2 ^ 20 ⌝ }
+    ensures { λ r. ⌜ Told (run keeping base (st (now (out .entry)) n) (named ending (now (s .entry)))) r (now (out .exit)) ⌝ }
 {
     let answer = read_name(s);
     match answer {
@@ -74,12 +79,11 @@ fn record(
     kind: u8,
     base: usize,
     left: usize,
-    skip: usize,
     out: &mut [u32],
     n: usize,
 ) -> Walk
-    requires { ⌜ base + 5 + length (now s) < 2 ^ 32 ⌝ }
-    ensures { λ r. ⌜ Told (run (noting skip) base (st (now (out .entry)) n) (recordOf left role kind (now (s .entry)))) r (now (out .exit)) ⌝ }
+    requires { ⌜ base + 5 + length (now s) < 2 ^ 20 ⌝ }
+    ensures { λ r. ⌜ Told (run keeping base (st (now (out .entry)) n) (recordOf left role kind (now (s .entry)))) r (now (out .exit)) ⌝ }
 {
     let Kinded::Known(shape) = read_kind(role, kind) else {
         return Walk::Refused(Refusal::Unknown);
@@ -87,32 +91,24 @@ fn record(
     if left == 0 {
         return Walk::Refused(Refusal::Deep);
     }
-    let m = note(role, kind, base, skip, out, n);
-    body(s, shape, base + 5, left - 1, skip, out, m)
+    let m = note(role, kind, s, base, out, n);
+    body(s, shape, base + 5, left - 1, out, m)
 }
 
 // A payload.
-fn body(
-    s: &[u8],
-    body: Body,
-    base: usize,
-    left: usize,
-    skip: usize,
-    out: &mut [u32],
-    n: usize,
-) -> Walk
-    requires { ⌜ base + length (now s) < 2 ^ 32 ⌝ }
-    ensures { λ r. ⌜ Told (run (noting skip) base (st (now (out .entry)) n) (bodyOf body (recordOf left) (now (s .entry)))) r (now (out .exit)) ⌝ }
+fn body(s: &[u8], body: Body, base: usize, left: usize, out: &mut [u32], n: usize) -> Walk
+    requires { ⌜ base + length (now s) < 2 ^ 20 ⌝ }
+    ensures { λ r. ⌜ Told (run keeping base (st (now (out .entry)) n) (bodyOf body (recordOf left) (now (s .entry)))) r (now (out .exit)) ⌝ }
 {
     match body {
-        Body::Exprs(many, role) => exact(s, many, role, base, left, skip, out, n),
-        Body::Single => single(s, base, skip, out, n),
-        Body::Call(role) => call(s, role, base, left, skip, out, n),
-        Body::Conditional => conditional(s, base, left, skip, out, n),
-        Body::Sequence => lists(s, base, left, skip, out, n),
-        Body::Switch => switch(s, base, left, skip, out, n),
-        Body::Assign => assign(s, base, left, skip, out, n),
-        Body::Choice => choice(s, base, left, skip, out, n),
+        Body::Exprs(many, role) => exact(s, many, role, base, left, out, n),
+        Body::Single => single(s, base, out, n),
+        Body::Call(role) => call(s, role, base, left, out, n),
+        Body::Conditional => conditional(s, base, left, out, n),
+        Body::Sequence => lists(s, base, left, out, n),
+        Body::Switch => switch(s, base, left, out, n),
+        Body::Assign => assign(s, base, left, out, n),
+        Body::Choice => choice(s, base, left, out, n),
     }
 }
 
@@ -123,36 +119,27 @@ fn exact(
     role: Role,
     base: usize,
     left: usize,
-    skip: usize,
     out: &mut [u32],
     n: usize,
 ) -> Walk
-    requires { ⌜ base + length (now s) < 2 ^ 32 ⌝ }
-    ensures { λ r. ⌜ Told (run (noting skip) base (st (now (out .entry)) n) (exact many (recordOf left role) (now (s .entry)))) r (now (out .exit)) ⌝ }
+    requires { ⌜ base + length (now s) < 2 ^ 20 ⌝ }
+    ensures { λ r. ⌜ Told (run keeping base (st (now (out .entry)) n) (exact many (recordOf left role) (now (s .entry)))) r (now (out .exit)) ⌝ }
 {
     if many == 0 {
         return at_end(s, n);
     }
-    let w = first(s, role, base, left, skip, out, n);
+    let w = first(s, role, base, left, out, n);
     let Walk::Done(m) = w else {
         return w;
     };
     let e = front_span(s);
-    exact(&s[e..], many - 1, role, base + e, left, skip, out, m)
+    exact(&s[e..], many - 1, role, base + e, left, out, m)
 }
 
 // Records of a role to the end.
-pub fn list(
-    s: &[u8],
-    role: Role,
-    base: usize,
-    left: usize,
-    skip: usize,
-    out: &mut [u32],
-    n: usize,
-) -> Walk
-    requires { ⌜ base + length (now s) < 2 ^ 32 ⌝ }
-    ensures { λ r. ⌜ Told (run (noting skip) base (st (now (out .entry)) n) (records (recordOf left role) (now (s .entry)))) r (now (out .exit)) ⌝ }
+pub fn list(s: &[u8], role: Role, base: usize, left: usize, out: &mut [u32], n: usize) -> Walk
+    requires { ⌜ base + length (now s) < 2 ^ 20 ⌝ }
+    ensures { λ r. ⌜ Told (run keeping base (st (now (out .entry)) n) (records (recordOf left role) (now (s .entry)))) r (now (out .exit)) ⌝ }
 {
     let mut t = s;
     let mut at = base;
@@ -162,7 +149,13 @@ pub fn list(
             return Walk::Refused(Refusal::Short);
         };
         let e = 5 + len;
-        let w = record(&t[5..e], role, kind, at, left, skip, out, count);
+        if is_bare(role, kind, len, left) {
+            count = std::num::wrapping_add_usize(count, 4294967296);
+            at = at + e;
+            t = &t[e..];
+            continue;
+        }
+        let w = record(&t[5..e], role, kind, at, left, out, count);
         let Walk::Done(m) = w else {
             return w;
         };
@@ -174,88 +167,75 @@ pub fn list(
 }
 
 // A name, and expressions of a role to the end.
-fn call(
-    s: &[u8],
-    role: Role,
-    base: usize,
-    left: usize,
-    skip: usize,
-    out: &mut [u32],
-    n: usize,
-) -> Walk
-    requires { ⌜ base + length (now s) < 2 ^ 32 ⌝ }
-    ensures { λ r. ⌜ Told (run (noting skip) base (st (now (out .entry)) n) (named (records (recordOf left role)) (now (s .entry)))) r (now (out .exit)) ⌝ }
+fn call(s: &[u8], role: Role, base: usize, left: usize, out: &mut [u32], n: usize) -> Walk
+    requires { ⌜ base + length (now s) < 2 ^ 20 ⌝ }
+    ensures { λ r. ⌜ Told (run keeping base (st (now (out .entry)) n) (named (records (recordOf left role)) (now (s .entry)))) r (now (out .exit)) ⌝ }
 {
     let answer = read_name(s);
     match answer {
         NameRead::Refused(r) => Walk::Refused(r),
         NameRead::Bytes(k) => {
             let e = 1 + k;
-            list(&s[e..], role, base + e, left, skip, out, n)
+            if e == s.len() {
+                return Walk::Done(n);
+            }
+            list(&s[e..], role, base + e, left, out, n)
         }
     }
 }
 
 // A condition, a list of nodes, and perhaps another.
-fn conditional(s: &[u8], base: usize, left: usize, skip: usize, out: &mut [u32], n: usize) -> Walk
-    requires { ⌜ base + length (now s) < 2 ^ 32 ⌝ }
-    ensures { λ r. ⌜ Told (run (noting skip) base (st (now (out .entry)) n) (front (recordOf left Role.Cond) (arms (recordOf left)) (now (s .entry)))) r (now (out .exit)) ⌝ }
+fn conditional(s: &[u8], base: usize, left: usize, out: &mut [u32], n: usize) -> Walk
+    requires { ⌜ base + length (now s) < 2 ^ 20 ⌝ }
+    ensures { λ r. ⌜ Told (run keeping base (st (now (out .entry)) n) (front (recordOf left Role.Cond) (arms (recordOf left)) (now (s .entry)))) r (now (out .exit)) ⌝ }
 {
-    let w = first(s, Role::Cond, base, left, skip, out, n);
+    let w = first(s, Role::Cond, base, left, out, n);
     let Walk::Done(m) = w else {
         return w;
     };
     let e = front_span(s);
-    arms(&s[e..], base + e, left, skip, out, m)
+    arms(&s[e..], base + e, left, out, m)
 }
 
 // A list of nodes, and perhaps another.
-fn arms(s: &[u8], base: usize, left: usize, skip: usize, out: &mut [u32], n: usize) -> Walk
-    requires { ⌜ base + length (now s) < 2 ^ 32 ⌝ }
-    ensures { λ r. ⌜ Told (run (noting skip) base (st (now (out .entry)) n) (arms (recordOf left) (now (s .entry)))) r (now (out .exit)) ⌝ }
+fn arms(s: &[u8], base: usize, left: usize, out: &mut [u32], n: usize) -> Walk
+    requires { ⌜ base + length (now s) < 2 ^ 20 ⌝ }
+    ensures { λ r. ⌜ Told (run keeping base (st (now (out .entry)) n) (arms (recordOf left) (now (s .entry)))) r (now (out .exit)) ⌝ }
 {
     let Span::Bytes(len) = read_list(s) else {
         return Walk::Refused(Refusal::Short);
     };
     let e = 4 + len;
-    let w = list(&s[4..e], Role::Branch, base + 4, left, skip, out, n);
+    let w = list(&s[4..e], Role::Branch, base + 4, left, out, n);
     let Walk::Done(m) = w else {
         return w;
     };
-    else_arm(&s[e..], base + e, left, skip, out, m)
+    else_arm(&s[e..], base + e, left, out, m)
 }
 
 // A flag, and a list of nodes if it is 1.
-fn else_arm(s: &[u8], base: usize, left: usize, skip: usize, out: &mut [u32], n: usize) -> Walk
-    requires { ⌜ base + length (now s) < 2 ^ 32 ⌝ }
-    ensures { λ r. ⌜ Told (run (noting skip) base (st (now (out .entry)) n) (orElse (recordOf left) (now (s .entry)))) r (now (out .exit)) ⌝ }
+fn else_arm(s: &[u8], base: usize, left: usize, out: &mut [u32], n: usize) -> Walk
+    requires { ⌜ base + length (now s) < 2 ^ 20 ⌝ }
+    ensures { λ r. ⌜ Told (run keeping base (st (now (out .entry)) n) (orElse (recordOf left) (now (s .entry)))) r (now (out .exit)) ⌝ }
 {
     let flag = read_flag(s);
     match flag {
         FlagRead::Off => at_end(&s[1..], n),
-        FlagRead::On => last(&s[1..], Role::Branch, base + 1, left, skip, out, n),
+        FlagRead::On => last(&s[1..], Role::Branch, base + 1, left, out, n),
         FlagRead::Refused(r) => Walk::Refused(r),
     }
 }
 
 // A list of nodes, and nothing more.
-fn last(
-    s: &[u8],
-    role: Role,
-    base: usize,
-    left: usize,
-    skip: usize,
-    out: &mut [u32],
-    n: usize,
-) -> Walk
-    requires { ⌜ base + length (now s) < 2 ^ 32 ⌝ }
-    ensures { λ r. ⌜ Told (run (noting skip) base (st (now (out .entry)) n) (last role (recordOf left) (now (s .entry)))) r (now (out .exit)) ⌝ }
+fn last(s: &[u8], role: Role, base: usize, left: usize, out: &mut [u32], n: usize) -> Walk
+    requires { ⌜ base + length (now s) < 2 ^ 20 ⌝ }
+    ensures { λ r. ⌜ Told (run keeping base (st (now (out .entry)) n) (last role (recordOf left) (now (s .entry)))) r (now (out .exit)) ⌝ }
 {
     let Span::Bytes(len) = read_list(s) else {
         return Walk::Refused(Refusal::Short);
     };
     let e = 4 + len;
-    let w = list(&s[4..e], role, base + 4, left, skip, out, n);
+    let w = list(&s[4..e], role, base + 4, left, out, n);
     let Walk::Done(m) = w else {
         return w;
     };
@@ -263,9 +243,9 @@ fn last(
 }
 
 // Lists of nodes to the end.
-fn lists(s: &[u8], base: usize, left: usize, skip: usize, out: &mut [u32], n: usize) -> Walk
-    requires { ⌜ base + length (now s) < 2 ^ 32 ⌝ }
-    ensures { λ r. ⌜ Told (run (noting skip) base (st (now (out .entry)) n) (repeat (listed (recordOf left Role.Node)) (now (s .entry)))) r (now (out .exit)) ⌝ }
+fn lists(s: &[u8], base: usize, left: usize, out: &mut [u32], n: usize) -> Walk
+    requires { ⌜ base + length (now s) < 2 ^ 20 ⌝ }
+    ensures { λ r. ⌜ Told (run keeping base (st (now (out .entry)) n) (repeat (listed (recordOf left Role.Node)) (now (s .entry)))) r (now (out .exit)) ⌝ }
 {
     let mut t = s;
     let mut at = base;
@@ -275,7 +255,7 @@ fn lists(s: &[u8], base: usize, left: usize, skip: usize, out: &mut [u32], n: us
             return Walk::Refused(Refusal::Short);
         };
         let e = 4 + len;
-        let w = list(&t[4..e], Role::Node, at + 4, left, skip, out, count);
+        let w = list(&t[4..e], Role::Node, at + 4, left, out, count);
         let Walk::Done(m) = w else {
             return w;
         };
@@ -287,72 +267,72 @@ fn lists(s: &[u8], base: usize, left: usize, skip: usize, out: &mut [u32], n: us
 }
 
 // A flag, a label if it is 1, conditions and nodes.
-fn choice(s: &[u8], base: usize, left: usize, skip: usize, out: &mut [u32], n: usize) -> Walk
-    requires { ⌜ base + length (now s) < 2 ^ 32 ⌝ }
-    ensures { λ r. ⌜ Told (run (noting skip) base (st (now (out .entry)) n) (flagged (options (recordOf left)) (named (options (recordOf left))) (now (s .entry)))) r (now (out .exit)) ⌝ }
+fn choice(s: &[u8], base: usize, left: usize, out: &mut [u32], n: usize) -> Walk
+    requires { ⌜ base + length (now s) < 2 ^ 20 ⌝ }
+    ensures { λ r. ⌜ Told (run keeping base (st (now (out .entry)) n) (flagged (options (recordOf left)) (named (options (recordOf left))) (now (s .entry)))) r (now (out .exit)) ⌝ }
 {
     let flag = read_flag(s);
     match flag {
-        FlagRead::Off => options(&s[1..], base + 1, left, skip, out, n),
-        FlagRead::On => label(&s[1..], base + 1, left, skip, out, n),
+        FlagRead::Off => options(&s[1..], base + 1, left, out, n),
+        FlagRead::On => label(&s[1..], base + 1, left, out, n),
         FlagRead::Refused(r) => Walk::Refused(r),
     }
 }
 
 // A label, conditions and nodes.
-fn label(s: &[u8], base: usize, left: usize, skip: usize, out: &mut [u32], n: usize) -> Walk
-    requires { ⌜ base + length (now s) < 2 ^ 32 ⌝ }
-    ensures { λ r. ⌜ Told (run (noting skip) base (st (now (out .entry)) n) (named (options (recordOf left)) (now (s .entry)))) r (now (out .exit)) ⌝ }
+fn label(s: &[u8], base: usize, left: usize, out: &mut [u32], n: usize) -> Walk
+    requires { ⌜ base + length (now s) < 2 ^ 20 ⌝ }
+    ensures { λ r. ⌜ Told (run keeping base (st (now (out .entry)) n) (named (options (recordOf left)) (now (s .entry)))) r (now (out .exit)) ⌝ }
 {
     let answer = read_name(s);
     match answer {
         NameRead::Refused(r) => Walk::Refused(r),
         NameRead::Bytes(k) => {
             let e = 1 + k;
-            options(&s[e..], base + e, left, skip, out, n)
+            options(&s[e..], base + e, left, out, n)
         }
     }
 }
 
 // A list of conditions, and a list of nodes.
-fn options(s: &[u8], base: usize, left: usize, skip: usize, out: &mut [u32], n: usize) -> Walk
-    requires { ⌜ base + length (now s) < 2 ^ 32 ⌝ }
-    ensures { λ r. ⌜ Told (run (noting skip) base (st (now (out .entry)) n) (options (recordOf left) (now (s .entry)))) r (now (out .exit)) ⌝ }
+fn options(s: &[u8], base: usize, left: usize, out: &mut [u32], n: usize) -> Walk
+    requires { ⌜ base + length (now s) < 2 ^ 20 ⌝ }
+    ensures { λ r. ⌜ Told (run keeping base (st (now (out .entry)) n) (options (recordOf left) (now (s .entry)))) r (now (out .exit)) ⌝ }
 {
     let Span::Bytes(len) = read_list(s) else {
         return Walk::Refused(Refusal::Short);
     };
     let e = 4 + len;
-    let w = list(&s[4..e], Role::Cond, base + 4, left, skip, out, n);
+    let w = list(&s[4..e], Role::Cond, base + 4, left, out, n);
     let Walk::Done(m) = w else {
         return w;
     };
-    last(&s[e..], Role::Node, base + e, left, skip, out, m)
+    last(&s[e..], Role::Node, base + e, left, out, m)
 }
 
 // An expression, and branches to the end.
-fn switch(s: &[u8], base: usize, left: usize, skip: usize, out: &mut [u32], n: usize) -> Walk
-    requires { ⌜ base + length (now s) < 2 ^ 32 ⌝ }
-    ensures { λ r. ⌜ Told (run (noting skip) base (st (now (out .entry)) n) (front (recordOf left Role.Visited) (repeat (branch (recordOf left))) (now (s .entry)))) r (now (out .exit)) ⌝ }
+fn switch(s: &[u8], base: usize, left: usize, out: &mut [u32], n: usize) -> Walk
+    requires { ⌜ base + length (now s) < 2 ^ 20 ⌝ }
+    ensures { λ r. ⌜ Told (run keeping base (st (now (out .entry)) n) (front (recordOf left Role.Visited) (repeat (branch (recordOf left))) (now (s .entry)))) r (now (out .exit)) ⌝ }
 {
-    let w = first(s, Role::Visited, base, left, skip, out, n);
+    let w = first(s, Role::Visited, base, left, out, n);
     let Walk::Done(m) = w else {
         return w;
     };
     let e = front_span(s);
-    branches(&s[e..], base + e, left, skip, out, m)
+    branches(&s[e..], base + e, left, out, m)
 }
 
 // Branches to the end: a flag, an expression if it is 1, a list of nodes.
-fn branches(s: &[u8], base: usize, left: usize, skip: usize, out: &mut [u32], n: usize) -> Walk
-    requires { ⌜ base + length (now s) < 2 ^ 32 ⌝ }
-    ensures { λ r. ⌜ Told (run (noting skip) base (st (now (out .entry)) n) (repeat (branch (recordOf left)) (now (s .entry)))) r (now (out .exit)) ⌝ }
+fn branches(s: &[u8], base: usize, left: usize, out: &mut [u32], n: usize) -> Walk
+    requires { ⌜ base + length (now s) < 2 ^ 20 ⌝ }
+    ensures { λ r. ⌜ Told (run keeping base (st (now (out .entry)) n) (repeat (branch (recordOf left)) (now (s .entry)))) r (now (out .exit)) ⌝ }
 {
     let mut t = s;
     let mut at = base;
     let mut count = n;
     while 0 < t.len() {
-        let w = test(t, at, left, skip, out, count);
+        let w = test(t, at, left, out, count);
         let Walk::Done(m) = w else {
             return w;
         };
@@ -363,7 +343,7 @@ fn branches(s: &[u8], base: usize, left: usize, skip: usize, out: &mut [u32], n:
             return Walk::Refused(Refusal::Short);
         };
         let d = 4 + len;
-        let x = list(&u[4..d], Role::Branch, p + 4, left, skip, out, m);
+        let x = list(&u[4..d], Role::Branch, p + 4, left, out, m);
         let Walk::Done(q) = x else {
             return x;
         };
@@ -375,64 +355,56 @@ fn branches(s: &[u8], base: usize, left: usize, skip: usize, out: &mut [u32], n:
 }
 
 // A flag, and an expression if it is 1.
-fn test(s: &[u8], base: usize, left: usize, skip: usize, out: &mut [u32], n: usize) -> Walk
-    requires { ⌜ base + length (now s) < 2 ^ 32 ⌝ }
-    ensures { λ r. ⌜ Told (run (noting skip) base (st (now (out .entry)) n) (tested (recordOf left) nothing (now (s .entry)))) r (now (out .exit)) ⌝ }
+fn test(s: &[u8], base: usize, left: usize, out: &mut [u32], n: usize) -> Walk
+    requires { ⌜ base + length (now s) < 2 ^ 20 ⌝ }
+    ensures { λ r. ⌜ Told (run keeping base (st (now (out .entry)) n) (tested (recordOf left) nothing (now (s .entry)))) r (now (out .exit)) ⌝ }
 {
     let flag = read_flag(s);
     match flag {
         FlagRead::Off => Walk::Done(n),
-        FlagRead::On => first(&s[1..], Role::Visited, base + 1, left, skip, out, n),
+        FlagRead::On => first(&s[1..], Role::Visited, base + 1, left, out, n),
         FlagRead::Refused(r) => Walk::Refused(r),
     }
 }
 
 // The record of a role at the front.
-fn first(
-    s: &[u8],
-    role: Role,
-    base: usize,
-    left: usize,
-    skip: usize,
-    out: &mut [u32],
-    n: usize,
-) -> Walk
-    requires { ⌜ base + length (now s) < 2 ^ 32 ⌝ }
-    ensures { λ r. ⌜ Told (run (noting skip) base (st (now (out .entry)) n) (front (recordOf left role) nothing (now (s .entry)))) r (now (out .exit)) ⌝ }
+fn first(s: &[u8], role: Role, base: usize, left: usize, out: &mut [u32], n: usize) -> Walk
+    requires { ⌜ base + length (now s) < 2 ^ 20 ⌝ }
+    ensures { λ r. ⌜ Told (run keeping base (st (now (out .entry)) n) (front (recordOf left role) nothing (now (s .entry)))) r (now (out .exit)) ⌝ }
 {
     let Head::Piece(kind, len) = read_head(s) else {
         return Walk::Refused(Refusal::Short);
     };
     let e = 5 + len;
-    record(&s[5..e], role, kind, base, left, skip, out, n)
+    record(&s[5..e], role, kind, base, left, out, n)
 }
 
 // A mode, a name and an expression.
-fn assign(s: &[u8], base: usize, left: usize, skip: usize, out: &mut [u32], n: usize) -> Walk
-    requires { ⌜ base + length (now s) < 2 ^ 32 ⌝ }
-    ensures { λ r. ⌜ Told (run (noting skip) base (st (now (out .entry)) n) (moded (named (exact 1 (recordOf left Role.Visited))) (now (s .entry)))) r (now (out .exit)) ⌝ }
+fn assign(s: &[u8], base: usize, left: usize, out: &mut [u32], n: usize) -> Walk
+    requires { ⌜ base + length (now s) < 2 ^ 20 ⌝ }
+    ensures { λ r. ⌜ Told (run keeping base (st (now (out .entry)) n) (moded (named (exact 1 (recordOf left Role.Visited))) (now (s .entry)))) r (now (out .exit)) ⌝ }
 {
     if s.len() < 1 {
         return Walk::Refused(Refusal::Short);
     }
     let mode = s[0];
     match mode {
-        0..=3 => set(&s[1..], base + 1, left, skip, out, n),
+        0..=3 => set(&s[1..], base + 1, left, out, n),
         4..=255 => Walk::Refused(Refusal::Unknown),
     }
 }
 
 // A name and an expression.
-fn set(s: &[u8], base: usize, left: usize, skip: usize, out: &mut [u32], n: usize) -> Walk
-    requires { ⌜ base + length (now s) < 2 ^ 32 ⌝ }
-    ensures { λ r. ⌜ Told (run (noting skip) base (st (now (out .entry)) n) (named (exact 1 (recordOf left Role.Visited)) (now (s .entry)))) r (now (out .exit)) ⌝ }
+fn set(s: &[u8], base: usize, left: usize, out: &mut [u32], n: usize) -> Walk
+    requires { ⌜ base + length (now s) < 2 ^ 20 ⌝ }
+    ensures { λ r. ⌜ Told (run keeping base (st (now (out .entry)) n) (named (exact 1 (recordOf left Role.Visited)) (now (s .entry)))) r (now (out .exit)) ⌝ }
 {
     let answer = read_name(s);
     match answer {
         NameRead::Refused(r) => Walk::Refused(r),
         NameRead::Bytes(k) => {
             let e = 1 + k;
-            exact(&s[e..], 1, Role::Visited, base + e, left, skip, out, n)
+            exact(&s[e..], 1, Role::Visited, base + e, left, out, n)
         }
     }
 }

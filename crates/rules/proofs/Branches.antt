@@ -1,7 +1,7 @@
 -- A node is directly in a branch of kind 8 or 9 where the grammar hands it the role of one: `in-branch`. Assumes nothing.
-use mathlib.Core.Path.{_≡_, refl, sym, _∙_, ap}
+use mathlib.Core.Path.{_≡_, refl, sym, _∙_}
 use mathlib.Core.Bool.{Bool, true, false}
-use mathlib.Core.List.{List, [], _∷_, _++_, map, List·Memᴰ·head, List·Memᴰ·tail, List·Memᴰ·not-nil, List·Memᴰ·cases-cons, List·Memᴰ·append-cases, Memᴰ·append-left, Memᴰ·append-right}
+use mathlib.Core.List.{List, [], _∷_, _++_, map, List·Memᴰ·head, List·Memᴰ·tail, List·Memᴰ·cases-cons, List·Memᴰ·append-cases, Memᴰ·append-left, Memᴰ·append-right}
 use mathlib.Core.Logic.{_⊎_, inl, inr, ⊎-elim}
 use Prim.Native.Nat.{ℕ, zero, suc, _+_}
 use native.Mathlib.Nat.{add-zero}
@@ -22,11 +22,11 @@ use Rattle.names.specs.Words.{_∈_}
 use Rattle.names.proofs.Means.{Means}
 use Rattle.records.specs.Trace.{Trace, done, refuse, emit, andThen, shift, Record, met, well, ends}
 use Rattle.records.specs.Grammar.{records, bodyOf, whole, tooDeep, recordOf, nodes}
-use Rattle.story.specs.Items.{inBranch}
+use Rattle.records.specs.Items.{inBranch}
 use Rattle.story.proofs.RecordsMet.{met-then, met-shift}
 use Rattle.story.proofs.Induction.{HandsOut, KeptOfTwo, records-hold, body-holds, Each, each-met, each-kept}
 use Rattle.story.proofs.Endings.{ends-then, ends-shift, first-well, second-well, thenEnds}
-use Rattle.bodies.proofs.Tables.{missed}
+use Rattle.records.proofs.Tables.{missed}
 use Rattle.rules.specs.Sorts.{IsNode, alone, DirectlyIn, Branching, InBranch}
 
 -- 1. The roles of the records directly in a payload

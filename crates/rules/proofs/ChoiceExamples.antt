@@ -10,7 +10,7 @@ use Rattle.names.specs.Words.{_∈_}
 use Rattle.records.specs.Trace.{andThen, shift, Record, met, well, ends}
 use Rattle.records.specs.Grammar.{frontAt, ending, repeatN, repeat, exact, listedAt, namedAt, flaggedAt, last, orElse, arms, options, bodyOf, whole, recordOf, nodes}
 use Rattle.story.specs.Story.{Story}
-use Rattle.story.specs.Items.{sortOf, inBranch, endingAt, endingN, endWithDivert, spanned, past, unlabelled, choiceBody, leaves, whatOf, itemAs, itemOf}
+use Rattle.records.specs.Items.{sortOf, inBranch, endingAt, endingN, endWithDivert, spanned, past, unlabelled, choiceBody, leaves, whatOf, itemAs, itemOf}
 use Rattle.story.specs.Flows.{names, flows, part}
 use Rattle.story.specs.File.{marked, startAt, openedOf, sectionsRead, readEnded, readAt, readOf}
 use Rattle.rules.specs.Rules.{root}

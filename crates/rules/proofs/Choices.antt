@@ -32,8 +32,8 @@ use Rattle.records.specs.Trace.{Trace, andThen, shift, Record, met, well, ends}
 use Rattle.records.specs.Grammar.{Reading, Reader, frontAt, front, ending, records, listedAt, listed, namedAt, flaggedAt, last, options, bodyOf, recordOf, nodes}
 use Rattle.records.proofs.Traces.{shift-shift, then-done, shift-done}
 use Rattle.records.proofs.Readings.{front-local, repeat-step}
-use Rattle.story.specs.Story.{Kind, plain, temp, divert, tunnel, thread, call, variable, argument, choice, gather, parameter, stitchName, flowStart, code, What, Item, Story}
-use Rattle.story.specs.Items.{sortOf, leaving, endingAt, endingN, endWithDivert, spanned, past, unlabelled, choiceBody, leaves, whatOf, itemAs, itemOf}
+use Rattle.records.specs.Items.{Kind, plain, temp, divert, tunnel, thread, call, variable, argument, choice, gather, parameter, stitchName, flowStart, code, What, Item, sortOf, leaving, endingAt, endingN, endWithDivert, spanned, past, unlabelled, choiceBody, leaves, whatOf, itemAs, itemOf}
+use Rattle.story.specs.Story.{Story}
 use Rattle.story.proofs.Endings.{ends-then, ends-shift, second-well}
 use Rattle.story.proofs.Unfolding.{name-count}
 use Rattle.story.proofs.WellInside.{record-bears}

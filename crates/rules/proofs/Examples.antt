@@ -7,7 +7,8 @@ use mathlib.Core.Option.{none, some}
 use Prim.Native.Nat.{ℕ}
 use Rattle.names.specs.Words.{Bytes}
 use Rattle.names.specs.Reserved.{END, arrow, builtins}
-use Rattle.story.specs.Story.{Name, Kind, temp, divert, thread, variable, choice, gather, Item, Stitch, Flow, Story}
+use Rattle.records.specs.Items.{Kind, temp, divert, thread, variable, choice, gather, Item}
+use Rattle.story.specs.Story.{Name, Stitch, Flow, Story}
 use Rattle.symbols.specs.Index.{labelled, stitchEntries, flowEntries, entries}
 use Rattle.rules.specs.Rules.{broken, known, here, number}
 use Rattle.rules.specs.Rules as scope

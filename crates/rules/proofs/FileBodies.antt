@@ -9,8 +9,8 @@ use Rattle.names.specs.Words.{_∈_}
 use Rattle.records.specs.Trace.{met, well, ends}
 use Rattle.records.specs.Grammar.{ending, nodes}
 use Rattle.story.specs.declared.Sections.{Sections}
-use Rattle.story.specs.Story.{Item, Stitch, Flow}
-use Rattle.story.specs.Items.{itemOf, itemsAs, itemsIn}
+use Rattle.records.specs.Items.{Item, itemOf, itemsAs, itemsIn}
+use Rattle.story.specs.Story.{Stitch, Flow}
 use Rattle.story.specs.Flows.{stitch, flow, stitches, part, stitchIn, flowIn, flowsIn}
 use Rattle.story.specs.File.{storyIn}
 use Rattle.story.proofs.Unfolding.{titled-in, flow-in}

@@ -13,7 +13,7 @@ use Rattle.fields.specs.Kinds.{nodeKind, kindOf}
 use Rattle.records.specs.Trace.{andThen, shift, met, ends}
 use Rattle.records.specs.Grammar.{frontAt, repeatN, repeat, namedAt, flaggedAt, listedAt, ending, bodyOf, whole, recordOf, nodes}
 use Rattle.story.specs.declared.Sections.{Sections}
-use Rattle.story.specs.Items.{nameIn, sortOf, nameStart, nameless, recordName, labelled, inBranch, leaves, whatOf, itemAs, itemOf, itemsAs, itemsIn}
+use Rattle.records.specs.Items.{nameIn, sortOf, nameStart, nameless, recordName, labelled, inBranch, leaves, whatOf, itemAs, itemOf, itemsAs, itemsIn}
 use Rattle.story.specs.Headings.{reachAt, namesReach, countedReach, listAt, marksAt, paramsAt, nameThen, headingOf}
 use Rattle.story.specs.Flows.{names, namesThen, counted, pieceAt, titled, stitch, flow, flows, namesN, namesIn, countedIn, part, titledAt, titledIn, piecesAt, piecesN, piecesIn, stitchIn, stitchesFrom, flowIn, flowsIn}
 use Rattle.story.specs.File.{marked, startAt, sectionsOf, openedOf, sectionsRead, readEnded, readAt, readOf, storyIn}

@@ -7,7 +7,8 @@ use mathlib.Core.Option.{none, some, Option·none-ne-some, Option·some-ne-none,
 use Prim.Native.Nat.{_<_}
 use native.Mathlib.Omega.{arith}
 use Rattle.names.specs.Words.{only, _∈_, Sorted}
-use Rattle.story.specs.Story.{What, Item, Story, whats}
+use Rattle.records.specs.Items.{What, Item}
+use Rattle.story.specs.Story.{Story, whats}
 use Rattle.rules.specs.declared.Rule.{Rule}
 use Rattle.rules.specs.Rules.{number}
 use Rattle.rules.specs.Steps.{Visit, visits, bracket, namesOf, flowNamed, Run, Numbered, numbered, Breach, breach, breaks, inVisit, inRun, runs, breaches, first, verdict, Later}

@@ -10,6 +10,7 @@ pub mod Least
 pub mod Shuffle
 pub mod Spellings
 pub mod Order
+pub mod Plain
 pub mod Demand
 pub mod Sorts
 pub mod Files

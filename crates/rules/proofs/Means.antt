@@ -8,8 +8,9 @@ use lib.Dec.{T, eqb, eqb→eq, eqb-refl}
 use Rattle.names.specs.Words.{Bytes, _∈_}
 use Rattle.names.specs.Reserved.{END, DONE, back, builtins}
 use Rattle.names.proofs.Means.{Means, itself, never, both, three, four, either, either3, fails, some-of, some-both, equal, member, end, pass}
-use Rattle.story.specs.Story.{Kind, temp, divert, tunnel, thread, call, variable, argument, choice, gather, parameter, stitchName, flowStart, code, What, is, Item, Flow, Story, words, whats}
-use Rattle.bodies.specs.Search.{labelIn, tempIn}
+use Rattle.records.specs.Items.{Kind, temp, divert, tunnel, thread, call, variable, argument, choice, gather, parameter, stitchName, flowStart, code, What, is, Item}
+use Rattle.story.specs.Story.{Flow, Story, words, whats}
+use Rattle.items.specs.Search.{labelIn, tempIn}
 use Rattle.symbols.specs.Index.{spellings}
 use Rattle.symbols.specs.Spelled.{LabelIn, Spelled}
 use Rattle.symbols.proofs.Spelled.{spelled}

@@ -14,8 +14,8 @@ use Rattle.names.proofs.Any.{any-in}
 use Rattle.names.proofs.Lists.{in-each}
 use Rattle.records.specs.Trace.{met}
 use Rattle.records.specs.Grammar.{nodes}
-use Rattle.story.specs.Story.{Name, Kind, plain, temp, divert, tunnel, thread, call, variable, argument, choice, gather, parameter, stitchName, flowStart, code, What, Item, Stitch, Flow, Story, whats}
-use Rattle.story.specs.Items.{sortOf, nameless, sameKind, whatOf, itemAs, itemOf}
+use Rattle.records.specs.Items.{Kind, plain, temp, divert, tunnel, thread, call, variable, argument, choice, gather, parameter, stitchName, flowStart, code, What, Item, sortOf, nameless, sameKind, whatOf, itemAs, itemOf}
+use Rattle.story.specs.Story.{Name, Stitch, Flow, Story, whats}
 use Rattle.story.proofs.Readable as reader
 use Rattle.story.proofs.Named.{record-as-file}
 use Rattle.story.proofs.Owned.{labelNames, stitchNames, flowNames, ownNames, story-own}

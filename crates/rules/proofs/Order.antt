@@ -6,8 +6,9 @@ use mathlib.Core.List.{List, [], _∷_, _++_, map}
 use mathlib.Core.Logic.{_↔_}
 use mathlib.Core.Option.{none, Option·some-ne-none}
 use Rattle.names.specs.Words.{Bytes, same, any, ends}
-use Rattle.story.specs.Story.{Name, Kind, parameter, stitchName, flowStart, What, Item, Stitch, Flow, Story, words, whats}
-use Rattle.bodies.specs.Search.{labelIn, tempIn}
+use Rattle.records.specs.Items.{Kind, parameter, stitchName, flowStart, What, Item}
+use Rattle.story.specs.Story.{Name, Stitch, Flow, Story, words, whats}
+use Rattle.items.specs.Search.{labelIn, tempIn}
 use Rattle.rules.specs.Rules.{Known, Here, known, knotLabel, Scope, root, knot, stitch, here}
 use Rattle.rules.specs.Steps.{Visit, visits, Step, s5, s6, s12, s19, s20, bracket, rootSteps, flowSteps, stitchSteps, Run, over, paramItems, purityItems, stitchRuns, flowRuns, runs, Breach, breaks, breaches, first, verdict}
 use Rattle.rules.specs.Alike.{AlikeStitch, AlikeFlow, Alike, Shuffled, AlikeShuffled}
@@ -18,7 +19,7 @@ use Rattle.rules.proofs.Spellings.{any-shuffled, alike-spellings}
 
 -- 1. WHAT THE RULES ASK: alike stories have the same names, and so have alike flows and stitches
 
-same-known : (k l : Known) → ((n : Bytes) → k .function n ≡ l .function n) → ((n : Bytes) → k .flow n ≡ l .flow n)
+pub same-known : (k l : Known) → ((n : Bytes) → k .function n ≡ l .function n) → ((n : Bytes) → k .flow n ≡ l .flow n)
     → ((n : Bytes) → k .global n ≡ l .global n) → ((n : Bytes) → k .external n ≡ l .external n) → ((n : Bytes) → k .target n ≡ l .target n) → k ≡ l
 same-known k l a b c d e = λ i. record {
   function = λ n. a n i;

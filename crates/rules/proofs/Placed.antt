@@ -3,7 +3,8 @@ use mathlib.Core.Path.{_≡_, refl, subst}
 use mathlib.Core.List.{List, [], _∷_, _++_, List·Memᴰ·head, List·Memᴰ·not-nil, Memᴰ·append-right, Memᴰ·of-map}
 use Prim.Native.Nat.{ℕ, _<_}
 use Rattle.names.specs.Words.{_∈_, Sorted}
-use Rattle.story.specs.Story.{Name, parameter, Item, Stitch, Flow, Story}
+use Rattle.records.specs.Items.{parameter, Item}
+use Rattle.story.specs.Story.{Name, Stitch, Flow, Story}
 use Rattle.rules.specs.Steps.{Run, nameItem, paramItems}
 use Rattle.rules.specs.Meaning.{RanInStitch, ran-name, ran-stitch-body, RanInFlow, ran-purity, ran-no-purity, ran-params, ran-flow-body, ran-stitch, ran-flow-gathers, Ran, ran-root, ran-flow, ran-root-gathers}
 use Rattle.rules.specs.Placed.{Rising, PlacedFlow, Placed}

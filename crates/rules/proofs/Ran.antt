@@ -9,7 +9,8 @@ use native.Mathlib.Omega.{arith}
 use lib.Dec.{T}
 use lib.ListN.{length, length-append}
 use Rattle.names.specs.Words.{each, _∈_}
-use Rattle.story.specs.Story.{Item, Stitch, Flow, Story}
+use Rattle.records.specs.Items.{Item}
+use Rattle.story.specs.Story.{Stitch, Flow, Story}
 use Rattle.rules.specs.Rules.{Scope, root, knot, stitch}
 use Rattle.rules.specs.Steps.{Step, s5, s6, s12, s19, s20, stepNumber, rootSteps, flowSteps, stitchSteps, Run, run, over, stitchItems, paramItems, purityItems, stitchRuns, flowRuns, runs, Numbered, numbered}
 use Rattle.rules.specs.Meaning.{flowSize, flowsSize, flowBegin, stitchBegin, RanInStitch, ran-name, ran-stitch-body, RanInFlow, ran-purity, ran-no-purity, ran-params, ran-flow-body, ran-stitch, ran-flow-gathers, Ran, ran-root, ran-flow, ran-root-gathers}

@@ -16,7 +16,7 @@ use Rattle.story.specs.declared.Opened.the-variants as opened
 use Rattle.story.specs.declared.Reach.the-variants as reach
 use Rattle.story.specs.declared.Heading.{Heading}
 use Rattle.story.specs.Story.{words}
-use Rattle.story.specs.Items.{nameIn}
+use Rattle.records.specs.Items.{nameIn}
 use Rattle.story.specs.Headings.{countedReach}
 use Rattle.story.specs.Flows.{piece, stitch, flow, flows, namesIn, countedIn, part, piecesAt, piecesN, piecesIn, stitchIn, flowIn, flowsIn}
 use Rattle.story.specs.File.{readOf, storyIn}

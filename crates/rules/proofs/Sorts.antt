@@ -13,8 +13,7 @@ use borrow.Author.Tests.{eqb-true}
 use Rattle.fields.specs.declared.Role.{Role}
 use Rattle.fields.specs.declared.Role.the-variants.{Node, Branch, Cond, Visited, Argument, Unvisited}
 use Rattle.fields.specs.Bytes.{pick}
-use Rattle.story.specs.Story.{Kind, plain, temp, divert, tunnel, thread, call, variable, argument, choice, gather, parameter, stitchName, flowStart}
-use Rattle.story.specs.Items.{nodeSorts, sortOf}
+use Rattle.records.specs.Items.{Kind, plain, temp, divert, tunnel, thread, call, variable, argument, choice, gather, parameter, stitchName, flowStart, nodeSorts, sortOf}
 use Rattle.rules.specs.Sorts.{IsNode, VisitedAs}
 
 -- 1. What is visited is of the sort

@@ -5,7 +5,8 @@ use mathlib.Core.Bool.{Bool, _&&_, _||_}
 use mathlib.Core.List.{List, [], _∷_, _++_, map}
 use mathlib.Core.Option.{Option}
 use Rattle.names.specs.Words.{Bytes, any, only}
-use Rattle.story.specs.Story.{Name, What, Item, Stitch, Flow, Story, words, whats, ownName}
+use Rattle.records.specs.Items.{What, Item}
+use Rattle.story.specs.Story.{Name, Stitch, Flow, Story, words, whats, ownName}
 use Rattle.symbols.specs.Index.{Entry, dotted, spelling, alone, labelled, prefix, stitchEntries, flowEntries, entries, spellings}
 use Rattle.rules.specs.Alike.{AlikeStitch, AlikeFlow, Shuffled, AlikeShuffled}
 use Rattle.names.proofs.Any.{any-append, any-only, any-each, any-map}

@@ -4,7 +4,8 @@ use mathlib.Core.Bool.{Bool, true, false}
 use mathlib.Core.List.{List, [], _∷_, _++_}
 use Prim.Native.Nat.{ℕ, suc}
 use Rattle.names.specs.Words.{Bytes, same}
-use Rattle.story.specs.Story.{What, Stitch, Flow, Story, words, whats}
+use Rattle.records.specs.Items.{What}
+use Rattle.story.specs.Story.{Stitch, Flow, Story, words, whats}
 
 -- one more where the test passes
 abbrev pub more : Bool → ℕ → ℕ

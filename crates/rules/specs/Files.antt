@@ -5,7 +5,8 @@ use mathlib.Core.Bool.{Bool}
 use mathlib.Core.List.{List, map}
 use Prim.Native.Nat.{ℕ}
 use Rattle.names.specs.Words.{Bytes}
-use Rattle.story.specs.Story.{What, Stitch, Flow, Story, words, whats}
+use Rattle.records.specs.Items.{What}
+use Rattle.story.specs.Story.{Stitch, Flow, Story, words, whats}
 use Rattle.rules.specs.Alike.{EquallyOften, Paired}
 use Rattle.rules.specs.Placed.{Placed}
 

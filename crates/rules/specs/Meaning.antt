@@ -8,7 +8,8 @@ use lib.Dec.{T}
 use lib.ListN.{length}
 use Rattle.names.specs.Words.{Bytes, _∈_}
 use Rattle.names.specs.Reserved.{END, DONE, arrow, back, builtins}
-use Rattle.story.specs.Story.{Name, Kind, temp, divert, tunnel, thread, call, variable, argument, choice, gather, parameter, stitchName, flowStart, code, What, Item, Stitch, Flow, Story, words, whats}
+use Rattle.records.specs.Items.{Kind, temp, divert, tunnel, thread, call, variable, argument, choice, gather, parameter, stitchName, flowStart, code, What, Item}
+use Rattle.story.specs.Story.{Name, Stitch, Flow, Story, words, whats}
 use Rattle.symbols.specs.Spelled.{LabelIn, Spelled}
 use Rattle.symbols.specs.Numbers.{absent}
 use Rattle.rules.specs.declared.Rule.{Rule}

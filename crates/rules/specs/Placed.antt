@@ -2,7 +2,8 @@
 use mathlib.Core.List.{List}
 use Prim.Native.Nat.{_<_}
 use Rattle.names.specs.Words.{_∈_, Sorted}
-use Rattle.story.specs.Story.{Name, Item, Stitch, Flow, Story}
+use Rattle.records.specs.Items.{Item}
+use Rattle.story.specs.Story.{Name, Stitch, Flow, Story}
 
 -- places rise in the body
 abbrev pub Rising : List Item → Type 0

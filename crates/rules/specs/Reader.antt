@@ -10,7 +10,7 @@ use Rattle.story.specs.declared.Opened.the-variants as opened
 use Rattle.story.specs.declared.HeadingRead.{HeadingRead}
 use Rattle.story.specs.declared.HeadingRead.the-variants as heading
 use Rattle.story.specs.Story.{Story, words, whats}
-use Rattle.story.specs.Items.{nameIn, itemsIn}
+use Rattle.records.specs.Items.{nameIn, itemsIn}
 use Rattle.story.specs.Headings.{headingOf}
 use Rattle.story.specs.Flows.{part, namesIn, countedIn, piecesIn, stitchIn}
 use Rattle.story.specs.File.{readOf, storyIn}

@@ -6,9 +6,10 @@ use Prim.Native.Nat.{ℕ}
 use Rattle.names.specs.Words.{Bytes, same, any, one-of, ends}
 use Rattle.names.specs.Reserved.{END, DONE, back, builtins}
 use Rattle.names.specs.Targets.{passes}
-use Rattle.story.specs.Story.{temp, divert, tunnel, thread, call, variable, argument, choice, gather, parameter, stitchName, flowStart, What, is, Stitch, Flow, Story, words}
+use Rattle.records.specs.Items.{temp, divert, tunnel, thread, call, variable, argument, choice, gather, parameter, stitchName, flowStart, What, is}
+use Rattle.story.specs.Story.{Stitch, Flow, Story, words}
 use Rattle.searches.specs.Called.{isFlow, isFunction}
-use Rattle.bodies.specs.Search.{labelIn, tempIn}
+use Rattle.items.specs.Search.{labelIn, tempIn}
 use Rattle.symbols.specs.Index.{spellings}
 use Rattle.rules.specs.declared.Rule.{Rule}
 use Rattle.rules.specs.declared.Rule.the-variants.{FunctionDivertedTo, TargetNotFound, FlowCalled, NameIsFunction, NameIsGlobal, TempIsParameter, TempIsLabel, ParameterUnmarked, ParameterAlreadyMarked, GatherRepeated, ChoiceUndiverted, FunctionWithStitches, FunctionWithChoice, FunctionWithDivert, VariableForbidden}

@@ -18,7 +18,8 @@ use Rattle.fields.specs.Kinds.{kindOf}
 use Rattle.names.specs.Words.{_∈_}
 use Rattle.records.specs.Trace.{done, emit, Record, met}
 use Rattle.records.specs.Grammar.{Reader, bodyOf}
-use Rattle.story.specs.Story.{Kind, plain, temp, divert, tunnel, thread, call, variable, argument, choice, gather, parameter, stitchName, flowStart, Item, Stitch, Flow, Story}
+use Rattle.records.specs.Items.{Kind, plain, temp, divert, tunnel, thread, call, variable, argument, choice, gather, parameter, stitchName, flowStart, Item}
+use Rattle.story.specs.Story.{Stitch, Flow, Story}
 
 -- a node: also one directly in a branch of kind 8 or 9
 abbrev pub IsNode : Role → Type 0

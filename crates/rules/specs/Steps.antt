@@ -6,7 +6,8 @@ use mathlib.Core.Logic.{_⊎_}
 use mathlib.Core.Option.{Option, none, some}
 use Prim.Native.Nat.{ℕ, suc, _<_}
 use Rattle.names.specs.Words.{only, each}
-use Rattle.story.specs.Story.{Name, Kind, parameter, stitchName, flowStart, What, Item, Stitch, Flow, Story}
+use Rattle.records.specs.Items.{Kind, parameter, stitchName, flowStart, What, Item}
+use Rattle.story.specs.Story.{Name, Stitch, Flow, Story}
 use Rattle.symbols.specs.Numbers.{absent}
 use Rattle.rules.specs.declared.Rule.{Rule}
 use Rattle.rules.specs.declared.Rule.the-variants.{FunctionDivertedTo, TargetNotFound, FlowCalled, NameIsFunction, NameIsGlobal, TempIsParameter, TempIsLabel, ParameterUnmarked, ParameterAlreadyMarked, GatherRepeated, ChoiceUndiverted, FunctionWithStitches, FunctionWithChoice, FunctionWithDivert, VariableForbidden}

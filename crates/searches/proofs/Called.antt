@@ -17,7 +17,7 @@ use Rattle.names.specs.Counted.{nameAt}
 use Rattle.story.specs.declared.HeadingRead.{HeadingRead}
 use Rattle.story.specs.declared.HeadingRead.the-variants as heading
 use Rattle.story.specs.Headings.{headingOf}
-use Rattle.story.specs.Items.{nameIn}
+use Rattle.records.specs.Items.{nameIn}
 use Rattle.story.specs.Flows.{titledAt, titledIn, piecesAt, piecesN, piecesIn, flowIn, flowsIn}
 use Rattle.story.proofs.Alike.{same-flow}
 use Rattle.story.proofs.Unfolding.{pieces-in-step, pieces-in-cut}

@@ -14,7 +14,7 @@ use Rattle.names.specs.Counted.{nameAt}
 use Rattle.records.proofs.Places.{drop-take}
 use Rattle.story.specs.declared.Reach.the-variants as reach
 use Rattle.story.specs.Headings.{reachAt, namesReach, countedReach}
-use Rattle.story.specs.Items.{nameIn}
+use Rattle.records.specs.Items.{nameIn}
 use Rattle.story.specs.Flows.{namesN, countedIn, part}
 use Rattle.story.proofs.Reaches.{counted-read}
 use Rattle.story.proofs.Unfolding.{name-count}

@@ -11,7 +11,7 @@ use Rattle.story.specs.declared.HeadingRead.{HeadingRead}
 use Rattle.story.specs.declared.HeadingRead.the-variants as heading
 use Rattle.story.specs.Headings.{headingOf}
 use Rattle.story.specs.Story.{Stitch, Flow}
-use Rattle.story.specs.Items.{itemsIn}
+use Rattle.records.specs.Items.{itemsIn}
 use Rattle.story.specs.Flows.{countedIn, part, piecesIn, stitchIn}
 use Rattle.searches.specs.declared.views.StitchView.{StitchView}
 use Rattle.searches.specs.declared.views.StitchViewRead.{StitchViewRead}

@@ -9,8 +9,8 @@ use Rattle.records.specs.Grammar.{nodes}
 use Rattle.records.proofs.Moved.{met-from-0}
 use Rattle.story.specs.declared.HeadingRead.{HeadingRead}
 use Rattle.story.specs.declared.HeadingRead.the-variants as heading
-use Rattle.story.specs.Story.{What, Stitch, Flow, words, whats}
-use Rattle.story.specs.Items.{itemAs, itemOf, itemsAs, itemsIn}
+use Rattle.records.specs.Items.{What, itemAs, itemOf, itemsAs, itemsIn}
+use Rattle.story.specs.Story.{Stitch, Flow, words, whats}
 use Rattle.story.specs.Headings.{headingOf}
 use Rattle.story.specs.Flows.{namesN, namesIn, countedIn, part, titledAt, titledIn, stitchIn, flowIn}
 

@@ -1,11 +1,8 @@
 -- How a reading made of two ends. Assumes nothing.
-use mathlib.Core.Path.{_≡_, refl, ap}
+use mathlib.Core.Path.{_≡_, refl}
 use Prim.Native.Nat.{ℕ}
 use native.Mathlib.Omega.{arith}
 use Rattle.records.specs.Trace.{Trace, done, refuse, emit, andThen, shift, Ending, well, refused, ends}
-use Rattle.story.specs.declared.Ended.{Ended}
-use Rattle.story.specs.declared.Ended.the-variants as ended
-use Rattle.story.specs.Endings.{endOf}
 
 -- the first ending, or the second where the first is good
 unfoldable pub thenEnds : Ending → Ending → Ending
@@ -34,19 +31,3 @@ pub second-well : (a b : Ending) → thenEnds a b ≡ well → b ≡ well
 unfolding thenEnds
 second-well well b e = e
 second-well (refused r) b e = let z : _≡_ {A = ℕ} 0 1 = cc in absurd (omega arith)
-
--- where the first is answered as good, the second decides
-pub well-then : (a b : Ending) {e : Ended} → e ≡ endOf a → e ≡ ended.Well → thenEnds a b ≡ b
-unfolding thenEnds endOf
-well-then well b p q = refl
-well-then (refused r) b p q = let z : _≡_ {A = ℕ} 0 1 = cc in absurd (omega arith)
-
--- where it is not, it is the whole's
-pub other-then : (a b : Ending) {e : Ended} → e ≡ endOf a → (e ≡ ended.Well → ⊥) → e ≡ endOf (thenEnds a b)
-unfolding thenEnds endOf
-other-then well b p other = absurd (other p)
-other-then (refused r) b p other = p
-
--- the `else` of a `let` for Well: the tag is another's
-pub not-well : (tag : Ended → ℕ) → tag ended.Well ≡ 0 → (e : Ended) → tag e ≡ 1 → e ≡ ended.Well → ⊥
-not-well tag z e k p = omega (arith, z, ap tag p)

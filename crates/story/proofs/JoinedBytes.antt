@@ -22,7 +22,7 @@ use Rattle.records.specs.Trace.{Record, met, well, ends}
 use Rattle.records.specs.Grammar.{Reading, repeat, nodes}
 use Rattle.story.specs.declared.Reach.the-variants as reach
 use Rattle.story.specs.Story.{Name}
-use Rattle.story.specs.Items.{itemsAs, itemsIn}
+use Rattle.records.specs.Items.{itemsAs, itemsIn}
 use Rattle.story.specs.Headings.{reachAt, namesReach, countedReach}
 use Rattle.story.specs.Flows.{names, piece, namesN, namesIn, countedIn, part, piecesAt, piecesN, piecesIn}
 use Rattle.story.specs.Whole.{Joined, Sized, IsName, AreCounted, IsRecord, withInside, AreNodes, IsList}

@@ -13,7 +13,7 @@ use Rattle.fields.specs.Bytes.{pick, flagOf}
 use Rattle.records.specs.Trace.{well, ends}
 use Rattle.records.specs.Grammar.{Reading, ending, nodes}
 use Rattle.story.specs.declared.Heading.{Heading}
-use Rattle.story.specs.Items.{nameIn, itemsIn}
+use Rattle.records.specs.Items.{nameIn, itemsIn}
 use Rattle.story.specs.Flows.{titled, stitch, flow, countedIn, part, piecesIn, stitchIn, flowIn, stitches}
 use Rattle.story.specs.Whole.{Joined, Sized, IsName, IsList, IsTitle, IsStitch, Flagged, IsFlow}
 use Rattle.story.proofs.Titles.{flagEnds, flow-ends}

@@ -9,6 +9,7 @@ pub mod Unfolding
 pub mod Parts
 pub mod Alike
 pub mod Places
+pub mod Plain
 pub mod Induction
 pub mod WellInside
 pub mod RecordNames
@@ -19,3 +20,14 @@ pub mod JoinedBytes
 pub mod JoinedFlows
 pub mod Whole
 pub mod WholeExample
+pub mod Titled
+pub mod PieceWalks
+pub mod SectionWalks
+pub mod StoryItems
+pub mod Weights
+pub mod Standing
+pub mod Answers
+pub mod Unpacked
+pub mod BodyRuns
+pub mod Files
+pub mod Reading

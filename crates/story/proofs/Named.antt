@@ -20,8 +20,8 @@ use Rattle.records.specs.Trace.{Record, met, well, ends}
 use Rattle.records.specs.Grammar.{nodes}
 use Rattle.records.proofs.Places.{stands-in-file, lies-within, drop-take}
 use Rattle.story.specs.declared.Reach.the-variants as reach
-use Rattle.story.specs.Story.{Name, Kind, plain, temp, divert, tunnel, thread, call, variable, argument, choice, gather, parameter, stitchName, flowStart, code, Item}
-use Rattle.story.specs.Items.{nameIn, sortOf, nameStart, nameless, recordName, labelled, whatOf, itemAs, itemOf, itemsIn}
+use Rattle.records.specs.Items.{Kind, plain, temp, divert, tunnel, thread, call, variable, argument, choice, gather, parameter, stitchName, flowStart, code, Item, nameIn, sortOf, nameStart, nameless, recordName, labelled, whatOf, itemAs, itemOf, itemsIn}
+use Rattle.story.specs.Story.{Name}
 use Rattle.story.specs.Headings.{reachAt, namesReach, countedReach}
 use Rattle.story.specs.Flows.{names, namesN, countedIn, part}
 use Rattle.story.proofs.Reaches.{counted-read}

@@ -7,7 +7,6 @@ use native.Mathlib.Omega.{arith}
 use lib.Dec.{ltb, eqb}
 use lib.ListN.{length, getD}
 use borrow.Author.Tests.{ltb-false}
-use Rattle.fields.specs.declared.Refusal.{Refusal}
 use Rattle.fields.specs.declared.Refusal.the-variants.{Length, Mark, Starts}
 use Rattle.fields.specs.Bytes.{pick}
 use Rattle.fields.proofs.Refusals.{byNumber, refusal-at}
@@ -16,12 +15,11 @@ use Rattle.records.specs.Grammar.{nodes}
 use Rattle.story.specs.declared.Sections.{Sections}
 use Rattle.story.specs.declared.Opened.{Opened}
 use Rattle.story.specs.declared.Opened.the-variants as opened
-use Rattle.story.specs.declared.Ended.{Ended}
-use Rattle.story.specs.declared.Ended.the-variants as ended
+use Rattle.story.specs.declared.StoryRead.{StoryRead}
+use Rattle.story.specs.declared.StoryRead.the-variants as read
 use Rattle.story.specs.Flows.{names, flows, part}
 use Rattle.story.specs.File.{marked, startAt, sectionsOf, InOrder, openedOf, sectionsRead, readEnded, readAt, readOf}
-use Rattle.story.specs.Endings.{endOf}
-use Rattle.story.specs.Results.{ReadResult, readResultOf, readingOf}
+use Rattle.story.specs.Results.{ReadResult, readResultOf, answerOf, readingOf}
 use Rattle.story.specs.Results as result
 use Rattle.story.proofs.Endings.{thenEnds, ends-then, ends-shift}
 
@@ -69,43 +67,44 @@ module _ (c : Sections) (s : List ℕ) where
   unfolding sectionsRead
   sections-end = simp (ends-then, ends-shift)
 
--- 3. The whole file
+-- a readable file's trailer is good, and its sections end well
+module _ (file : List ℕ) (c : Sections) (e : readOf file ≡ opened.At c) where
+  ended-at : (x : Ending) (d : Sections) → readEnded x (opened.At d) ≡ opened.At c → (x ≡ well) × (d ≡ c)
+  unfolding readEnded
+  ended-at well d q = (refl, cc)
+  ended-at (refused r) d q = let z : _≡_ {A = ℕ} 0 1 = cc in absurd (omega arith)
 
-module _ (s : List ℕ) where
-  pub read-closed : {x : Refusal} {r : Opened} → r ≡ openedOf s → r ≡ opened.Refused x → opened.Refused x ≡ readOf s
-  unfolding readOf readAt
-  read-closed p q = rw (← p, q)
+  opened-at : (x : Opened) → readAt x file ≡ opened.At c → ends (sectionsRead c file) ≡ well
+  unfolding readAt
+  opened-at (opened.At d) q = let h = ended-at (ends (sectionsRead d file)) d q in rw (← h .1) (h .0)
+  opened-at (opened.Refused r) q = let z : _≡_ {A = ℕ} 0 1 = cc in absurd (omega arith)
 
-  module _ (c : Sections) {r : Opened} {w : Ended} (told : r ≡ openedOf s) (at : r ≡ opened.At c) (inside : w ≡ endOf (ends (sectionsRead c s))) where
-    pub read-refused : {x : Refusal} → w ≡ ended.Refused x → opened.Refused x ≡ readOf s
-    unfolding readOf readAt readEnded endOf
-    read-refused {x} q = rw (← told, at) (by-end (ends (sectionsRead c s)) (sym inside ∙ q))
-      where
-        by-end : (e : Ending) → endOf e ≡ ended.Refused x → opened.Refused x ≡ readEnded e (opened.At c)
-        by-end well p = let z : _≡_ {A = ℕ} 0 1 = cc in absurd (omega arith)
-        by-end (refused y) p = cc
+  at-first : (x : Opened) → readAt x file ≡ opened.At c → x ≡ opened.At c
+  unfolding readAt
+  at-first (opened.At d) q = rw (ended-at (ends (sectionsRead d file)) d q .1)
+  at-first (opened.Refused r) q = q
 
-    pub read-well : w ≡ ended.Well → opened.At c ≡ readOf s
-    unfolding readOf readAt readEnded endOf
-    read-well q = rw (← told, at) (by-end (ends (sectionsRead c s)) (sym inside ∙ q))
-      where
-        by-end : (e : Ending) → endOf e ≡ ended.Well → opened.At c ≡ readEnded e (opened.At c)
-        by-end well p = refl
-        by-end (refused y) p = let z : _≡_ {A = ℕ} 0 1 = cc in absurd (omega arith)
+  pub trailer-well : openedOf file ≡ opened.At c
+  unfolding readOf
+  trailer-well = at-first (openedOf file) e
 
--- 4. In numbers
+  pub sections-well : ends (sectionsRead c file) ≡ well
+  unfolding readOf
+  sections-well = opened-at (openedOf file) e
+
+-- 3. In numbers
 
 -- what was answered with a result
-openedOfResult : ReadResult → Opened
-openedOfResult (result.refused n) = getD (byNumber opened.Refused (opened.Refused Length) []) n (opened.Refused Length)
-openedOfResult (result.sections externals root flows end) = opened.At (record { externals = externals; root = root; flows = flows; end = end })
+readOfResult : ReadResult → StoryRead
+readOfResult (result.refused n) = getD (byNumber read.Refused (read.Refused Length) []) n (read.Refused Length)
+readOfResult (result.sections externals root flows end kept all) = read.At (record { externals = externals; root = root; flows = flows; end = end }) kept all
 
-back : (o : Opened) → openedOfResult (readResultOf o) ≡ o
-unfolding openedOfResult readResultOf
-back (opened.Refused r) = refusal-at opened.Refused (opened.Refused Length) [] r
-back (opened.At c) = refl
+back : (r : StoryRead) → readOfResult (readResultOf r) ≡ r
+unfolding readOfResult readResultOf
+back (read.Refused r) = refusal-at read.Refused (read.Refused Length) [] r
+back (read.At c kept all) = refl
 
 -- the numbers tell what was answered
-pub read-opened : (r : Opened) (file : List ℕ) → readResultOf r ≡ readingOf file → r ≡ readOf file
+pub read-answer : (r : StoryRead) (file : List ℕ) → readResultOf r ≡ readingOf file → r ≡ answerOf (readOf file) file
 unfolding readingOf
-read-opened r file e = sym (back r) ∙ (ap openedOfResult e ∙ back (readOf file))
+read-answer r file e = sym (back r) ∙ (ap readOfResult e ∙ back (answerOf (readOf file) file))

@@ -20,8 +20,8 @@ use Rattle.records.proofs.Places.{lies-within}
 use Rattle.story.specs.declared.Sections.{Sections}
 use Rattle.story.specs.declared.Reach.the-variants as reach
 use Rattle.story.specs.declared.Heading.{Heading}
-use Rattle.story.specs.Story.{Name, Item, Stitch, Flow, Story, ownName}
-use Rattle.story.specs.Items.{nameIn, itemOf, itemsAs, itemsIn}
+use Rattle.records.specs.Items.{Item, nameIn, itemOf, itemsAs, itemsIn}
+use Rattle.story.specs.Story.{Name, Stitch, Flow, Story, ownName}
 use Rattle.story.specs.Headings.{countedReach}
 use Rattle.story.specs.Flows.{names, piece, stitch, flow, flows, namesIn, countedIn, part, piecesAt, piecesN, piecesIn, stitchIn, flowIn, flowsIn, stitches}
 use Rattle.story.specs.File.{storyIn}

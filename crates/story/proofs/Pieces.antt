@@ -1,7 +1,7 @@
 -- Names and pieces to the end: one of them, then the rest. Assumes nothing.
-use mathlib.Core.Path.{_≡_, refl, _∙_}
+use mathlib.Core.Path.{_≡_, refl}
 use mathlib.Core.List.{List}
-use Prim.Native.Nat.{ℕ, _+_, _-_, _≤_, _<_}
+use Prim.Native.Nat.{ℕ, _+_, _≤_, _<_}
 use native.Mathlib.Omega.{arith}
 use lib.ListN.{length, take, drop}
 use Rattle.fields.specs.declared.Refusal.{Refusal}
@@ -11,15 +11,11 @@ use Rattle.fields.specs.declared.NameRead.the-variants as name
 use Rattle.fields.specs.declared.Span.{Span}
 use Rattle.fields.specs.declared.Span.the-variants as span
 use Rattle.fields.specs.Bytes.{listOf, nameOf}
-use Rattle.fields.proofs.Laws.{to-end, part}
 use Rattle.records.specs.Trace.{shift, well, refused, ends}
 use Rattle.records.specs.Grammar.{Reading, repeat, namedAt, named}
 use Rattle.records.proofs.Readings.{Local, repeat-none, repeat-step}
-use Rattle.story.specs.declared.Ended.{Ended}
-use Rattle.story.specs.declared.Ended.the-variants as ended
 use Rattle.story.specs.Flows.{pieceAt, piece, names}
-use Rattle.story.specs.Endings.{endOf}
-use Rattle.story.proofs.Endings.{thenEnds, ends-then, ends-shift, well-then, other-then}
+use Rattle.story.proofs.Endings.{thenEnds, ends-then, ends-shift}
 
 -- 1. Names
 
@@ -57,10 +53,6 @@ module _ (g : Reading) where
       by-span span.Cut = refl
 
   module _ (s : List ℕ) where
-    pub pieces-none : length s ≤ 0 → ends (repeat (piece g) s) ≡ well
-    unfolding ends
-    pieces-none h = rw (repeat-none (piece g) s h)
-
     pub pieces-cut : {r : Span} → 0 < length s → r ≡ listOf s → r ≡ span.Cut → ends (repeat (piece g) s) ≡ refused Short
     unfolding pieceAt ends
     pieces-cut h p q = rw (repeat-step (piece g) piece-local s h, ← p, q)
@@ -71,14 +63,3 @@ module _ (g : Reading) where
     unfolding pieceAt
     pieces-step n h p q =
         rw (repeat-step (piece g) piece-local s h, ← p, q, ends-then (shift 4 (g (take n (drop 4 s)))) (shift (4 + n) (repeat (piece g) (drop (4 + n) s))), ends-shift 4 (g (take n (drop 4 s))), ends-shift (4 + n) (repeat (piece g) (drop (4 + n) s)))
-
-    -- as the code takes the parts: the first piece is answered as good, or not
-    module _ (n : ℕ) {r : Span} {e : Ended} (some-left : 0 < length s) (told : r ≡ listOf s) (long : r ≡ span.Bytes n)
-        (first : e ≡ endOf (ends (g (take (4 + n - 4) (drop 4 s))))) where
-      pub pieces-on : e ≡ ended.Well → ends (repeat (piece g) s) ≡ ends (repeat (piece g) (take (length s - (4 + n)) (drop (4 + n) s)))
-      pieces-on q =
-          pieces-step n some-left told long ∙ rw (to-end (4 + n) s, ← part 4 n s) (well-then (ends (g (take (4 + n - 4) (drop 4 s)))) (ends (repeat (piece g) (drop (4 + n) s))) first q)
-
-      pub pieces-other : (e ≡ ended.Well → ⊥) → e ≡ endOf (ends (repeat (piece g) s))
-      pieces-other other =
-          rw (pieces-step n some-left told long, ← part 4 n s) (other-then (ends (g (take (4 + n - 4) (drop 4 s)))) (ends (repeat (piece g) (drop (4 + n) s))) first other)

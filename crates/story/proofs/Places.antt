@@ -15,8 +15,8 @@ use Rattle.records.proofs.Places.{places-rise, lies-within}
 use Rattle.story.specs.declared.Sections.{Sections}
 use Rattle.story.specs.declared.HeadingRead.{HeadingRead}
 use Rattle.story.specs.declared.HeadingRead.the-variants as heading
-use Rattle.story.specs.Story.{Name, Item, Stitch, Flow}
-use Rattle.story.specs.Items.{itemAs, itemOf, itemsAs, itemsIn}
+use Rattle.records.specs.Items.{Item, itemAs, itemOf, itemsAs, itemsIn}
+use Rattle.story.specs.Story.{Name, Stitch, Flow}
 use Rattle.story.specs.Headings.{headingOf}
 use Rattle.story.specs.Flows.{namesN, countedIn, titledAt, titledIn, piecesAt, piecesN, piecesIn, stitchIn, stitchesFrom, flowIn, flowsIn, part}
 use Rattle.story.specs.File.{storyIn}

@@ -21,8 +21,7 @@ use Rattle.fields.specs.Bytes.{pick, nameOf, flagOf}
 use Rattle.fields.specs.Kinds.{exprKinds, exprKind, condKinds, condKind, nodeKinds, nodeKind, kindOf}
 use Rattle.records.specs.Trace.{refuse, shift, well, ends}
 use Rattle.records.specs.Grammar.{Reading, Reader, namedAt, named, flaggedAt, flagged, moded, records, exact, ending, options, bodyOf, recordOf}
-use Rattle.story.specs.Story.{Kind, plain, temp, divert, tunnel, thread, call, variable, argument, choice, gather}
-use Rattle.story.specs.Items.{assigned, nodeSorts, condSorts, exprSorts, argumentSorts, sortOf, nameStart, nameless}
+use Rattle.records.specs.Items.{Kind, plain, temp, divert, tunnel, thread, call, variable, argument, choice, gather, assigned, nodeSorts, condSorts, exprSorts, argumentSorts, sortOf, nameStart, nameless}
 use Rattle.story.proofs.Endings.{ends-shift}
 use Rattle.story.proofs.WellInside.{Bears}
 

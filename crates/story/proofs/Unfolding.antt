@@ -18,7 +18,7 @@ use Rattle.story.specs.declared.Heading.{Heading}
 use Rattle.story.specs.declared.HeadingRead.{HeadingRead}
 use Rattle.story.specs.declared.HeadingRead.the-variants as heading
 use Rattle.story.specs.Story.{Name}
-use Rattle.story.specs.Items.{nameIn, itemsIn}
+use Rattle.records.specs.Items.{nameIn, itemsIn}
 use Rattle.story.specs.Headings.{headingOf}
 use Rattle.story.specs.Flows.{namesN, countedIn, part, titledAt, titledIn, piecesAt, piecesN, piecesIn, stitchIn, stitchesFrom, flowIn}
 

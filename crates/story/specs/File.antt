@@ -13,7 +13,7 @@ use Rattle.story.specs.declared.Sections.{Sections}
 use Rattle.story.specs.declared.Opened.{Opened}
 use Rattle.story.specs.declared.Opened.the-variants as opened
 use Rattle.story.specs.Story.{Story}
-use Rattle.story.specs.Items.{itemsIn}
+use Rattle.records.specs.Items.{itemsIn}
 use Rattle.story.specs.Flows.{names, flows, namesIn, flowsIn, part}
 
 -- L under 20 or over 1,048,576

@@ -13,7 +13,7 @@ use Rattle.records.specs.Grammar.{Reading, repeat, named, flagged, listed, endi
 use Rattle.story.specs.declared.HeadingRead.{HeadingRead}
 use Rattle.story.specs.declared.HeadingRead.the-variants as heading
 use Rattle.story.specs.Story.{Name, Stitch, Flow}
-use Rattle.story.specs.Items.{nameIn, itemsIn}
+use Rattle.records.specs.Items.{nameIn, itemsIn}
 use Rattle.story.specs.Headings.{headingOf}
 
 -- 1. The grammar

@@ -1,6 +1,7 @@
 -- The definitions on story files.
 pub mod Story
-pub mod Items
+pub mod Plain
+pub mod Fewer
 pub mod Headings
 pub mod Flows
 pub mod Endings

@@ -11,8 +11,8 @@ use Rattle.names.specs.Words.{each, Sorted}
 use Rattle.records.specs.Trace.{Record, met}
 use Rattle.records.specs.Grammar.{recordOf}
 use Rattle.story.specs.declared.Sections.{Sections}
-use Rattle.story.specs.Story.{Name, Item, Stitch, Flow, Story}
-use Rattle.story.specs.Items.{itemOf}
+use Rattle.records.specs.Items.{Item, itemOf}
+use Rattle.story.specs.Story.{Name, Stitch, Flow, storyItems}
 use Rattle.story.specs.Flows.{part}
 use Rattle.story.specs.File.{InOrder, sectionsRead, storyIn}
 
@@ -109,14 +109,6 @@ pub record IsFlow (at : ℕ) (s : List ℕ) (f : Flow) : Type 0 where
   pub are-stitches : Joined IsStitch (at + 5 + length title) stitches (f .stitches)
 
 -- 3. The file
-
--- the items of a flow, and then those of its stitches
-abbrev pub flowItems : Flow → List Item
-flowItems f = f .body ++ each (λ (t : Stitch). t .body) (f .stitches)
-
--- the items of the root, and then those of each flow
-abbrev pub storyItems : Story → List Item
-storyItems s = s .root ++ each flowItems (s .flows)
 
 -- THE WHOLE FILE with these sections, and the story in it
 pub record Whole (c : Sections) (file : List ℕ) : Type 0 where

@@ -1,14 +1,13 @@
-// Names, nodes, stitches and flows, read to the end.
+// Names, stitches and flows, read to the end, their records kept.
 ghost use mathlib.Core.Path.{_≡_};
-ghost use Prim.Native.Nat.{_<_, _^_};
+ghost use Prim.Native.Nat.{_+_, _<_, _^_};
 ghost use lib.ListN.{length};
 ghost use Rattle.records.specs.Trace.{ends};
-ghost use Rattle.records.specs.Grammar.{nodes};
+ghost use Rattle.records.specs.Work.{run, st, keeping, Told};
 ghost use Rattle.story.specs.Flows.{names, titled, stitch, flow, flows, stitches};
-ghost use Rattle.story.specs.Endings.{endOf, titledReach};
+ghost use Rattle.story.specs.Endings.{endOf};
 use crate::Ended;
 use crate::HeadingRead;
-use crate::Reach;
 use crate::headings::read_heading;
 use fields::FlagRead;
 use fields::NameRead;
@@ -19,6 +18,7 @@ use fields::read_list;
 use fields::read_name;
 use records::Walk;
 use records::walk_nodes;
+use records::walker::at_end;
 
 // Names to the end.
 pub fn read_names(s: &[u8]) -> Ended
@@ -40,117 +40,103 @@ pub fn read_names(s: &[u8]) -> Ended
     Ended::Well
 }
 
-// The nodes of a root, a flow or a stitch.
-pub fn read_nodes(s: &[u8]) -> Ended
-    requires { ⌜ length (now s) < 2 ^ 32 ⌝ }
-    ensures { λ r. ⌜ r ≡ endOf (ends (nodes (now (s .entry)))) ⌝ }
-{
-    let mut none = [0u32; 1];
-    let w = walk_nodes(s, 0, 0, &mut none);
-    match w {
-        Walk::Refused(r) => Ended::Refused(r),
-        Walk::Done(_) => Ended::Well,
-    }
-}
-
-// How far the heading and the nodes of a flow or a stitch reach.
-fn read_titled(s: &[u8]) -> Reach
-    requires { ⌜ length (now s) < 2 ^ 32 ⌝ }
-    ensures { λ r. ⌜ r ≡ titledReach (now (s .entry)) ⌝ }
+// A stitch after its length.
+fn read_stitch(s: &[u8], base: usize, out: &mut [u32], n: usize) -> Walk
+    requires { ⌜ base + length (now s) < 2 ^ 20 ⌝ }
+    ensures { λ r. ⌜ Told (run keeping base (st (now (out .entry)) n) (stitch (now (s .entry)))) r (now (out .exit)) ⌝ }
 {
     let answer = read_heading(s);
     match answer {
-        HeadingRead::Refused(r) => Reach::Refused(r),
+        HeadingRead::Refused(r) => Walk::Refused(r),
         HeadingRead::At(h) => {
             let nodes = h.nodes;
             let end = h.end;
-            let ended = read_nodes(&s[nodes..end]);
-            match ended {
-                Ended::Refused(r) => Reach::Refused(r),
-                Ended::Well => Reach::To(end),
-            }
-        }
-    }
-}
-
-// A stitch after its length.
-fn read_stitch(s: &[u8]) -> Ended
-    requires { ⌜ length (now s) < 2 ^ 32 ⌝ }
-    ensures { λ r. ⌜ r ≡ endOf (ends (stitch (now (s .entry)))) ⌝ }
-{
-    let answer = read_titled(s);
-    match answer {
-        Reach::Refused(r) => Ended::Refused(r),
-        Reach::To(end) => {
-            if end < s.len() {
-                return Ended::Refused(Refusal::Short);
-            }
-            Ended::Well
+            let w = walk_nodes(&s[nodes..end], base + nodes, out, n);
+            let Walk::Done(m) = w else {
+                return w;
+            };
+            at_end(&s[end..], m)
         }
     }
 }
 
 // Stitches to the end.
-fn read_stitches(s: &[u8]) -> Ended
-    requires { ⌜ length (now s) < 2 ^ 32 ⌝ }
-    ensures { λ r. ⌜ r ≡ endOf (ends (stitches (now (s .entry)))) ⌝ }
+fn read_stitches(s: &[u8], base: usize, out: &mut [u32], n: usize) -> Walk
+    requires { ⌜ base + length (now s) < 2 ^ 20 ⌝ }
+    ensures { λ r. ⌜ Told (run keeping base (st (now (out .entry)) n) (stitches (now (s .entry)))) r (now (out .exit)) ⌝ }
 {
     let mut t = s;
+    let mut at = base;
+    let mut count = n;
     while 0 < t.len() {
-        let Span::Bytes(n) = read_list(t) else {
-            return Ended::Refused(Refusal::Short);
+        let Span::Bytes(len) = read_list(t) else {
+            return Walk::Refused(Refusal::Short);
         };
-        let e = 4 + n;
-        let ended = read_stitch(&t[4..e]);
-        let Ended::Well = ended else {
-            return ended;
+        let e = 4 + len;
+        let w = read_stitch(&t[4..e], at + 4, out, count);
+        let Walk::Done(m) = w else {
+            return w;
         };
+        count = m;
+        at = at + e;
         t = &t[e..];
     }
-    Ended::Well
+    Walk::Done(count)
 }
 
 // A flow after its flag.
-fn read_unflagged(s: &[u8]) -> Ended
-    requires { ⌜ length (now s) < 2 ^ 32 ⌝ }
-    ensures { λ r. ⌜ r ≡ endOf (ends (titled stitches (now (s .entry)))) ⌝ }
+fn read_unflagged(s: &[u8], base: usize, out: &mut [u32], n: usize) -> Walk
+    requires { ⌜ base + length (now s) < 2 ^ 20 ⌝ }
+    ensures { λ r. ⌜ Told (run keeping base (st (now (out .entry)) n) (titled stitches (now (s .entry)))) r (now (out .exit)) ⌝ }
 {
-    let answer = read_titled(s);
+    let answer = read_heading(s);
     match answer {
-        Reach::Refused(r) => Ended::Refused(r),
-        Reach::To(end) => read_stitches(&s[end..]),
+        HeadingRead::Refused(r) => Walk::Refused(r),
+        HeadingRead::At(h) => {
+            let nodes = h.nodes;
+            let end = h.end;
+            let w = walk_nodes(&s[nodes..end], base + nodes, out, n);
+            let Walk::Done(m) = w else {
+                return w;
+            };
+            read_stitches(&s[end..], base + end, out, m)
+        }
     }
 }
 
 // A flow after its length.
-fn read_flow(s: &[u8]) -> Ended
-    requires { ⌜ length (now s) < 2 ^ 32 ⌝ }
-    ensures { λ r. ⌜ r ≡ endOf (ends (flow (now (s .entry)))) ⌝ }
+fn read_flow(s: &[u8], base: usize, out: &mut [u32], n: usize) -> Walk
+    requires { ⌜ base + length (now s) < 2 ^ 20 ⌝ }
+    ensures { λ r. ⌜ Told (run keeping base (st (now (out .entry)) n) (flow (now (s .entry)))) r (now (out .exit)) ⌝ }
 {
     let flag = read_flag(s);
     match flag {
-        FlagRead::Refused(r) => Ended::Refused(r),
-        FlagRead::Off => read_unflagged(&s[1..]),
-        FlagRead::On => read_unflagged(&s[1..]),
+        FlagRead::Refused(r) => Walk::Refused(r),
+        FlagRead::Off => read_unflagged(&s[1..], base + 1, out, n),
+        FlagRead::On => read_unflagged(&s[1..], base + 1, out, n),
     }
 }
 
 // Flows to the end.
-pub fn read_flows(s: &[u8]) -> Ended
-    requires { ⌜ length (now s) < 2 ^ 32 ⌝ }
-    ensures { λ r. ⌜ r ≡ endOf (ends (flows (now (s .entry)))) ⌝ }
+pub fn read_flows(s: &[u8], base: usize, out: &mut [u32], n: usize) -> Walk
+    requires { ⌜ base + length (now s) < 2 ^ 20 ⌝ }
+    ensures { λ r. ⌜ Told (run keeping base (st (now (out .entry)) n) (flows (now (s .entry)))) r (now (out .exit)) ⌝ }
 {
     let mut t = s;
+    let mut at = base;
+    let mut count = n;
     while 0 < t.len() {
-        let Span::Bytes(n) = read_list(t) else {
-            return Ended::Refused(Refusal::Short);
+        let Span::Bytes(len) = read_list(t) else {
+            return Walk::Refused(Refusal::Short);
         };
-        let e = 4 + n;
-        let ended = read_flow(&t[4..e]);
-        let Ended::Well = ended else {
-            return ended;
+        let e = 4 + len;
+        let w = read_flow(&t[4..e], at + 4, out, count);
+        let Walk::Done(m) = w else {
+            return w;
         };
+        count = m;
+        at = at + e;
         t = &t[e..];
     }
-    Ended::Well
+    Walk::Done(count)
 }

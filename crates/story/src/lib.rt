@@ -1,9 +1,7 @@
 // The story file: trailer and sections, the headings of flows and stitches, and the reading pass over a whole file.
-ghost use mathlib.Core.Path.{_≡_};
-ghost use Rattle.records.specs.Trace.{ends};
+ghost use Rattle.records.specs.Work.{run, st, keeping, Told};
 ghost use Rattle.story.specs.File.{sectionsRead, InOrder};
 ghost use Rattle.story.specs.Results.{ReadAs};
-ghost use Rattle.story.specs.Endings.{endOf};
 
 pub mod flows;
 pub mod headings;
@@ -11,9 +9,10 @@ pub mod trailer;
 
 use crate::flows::read_flows;
 use crate::flows::read_names;
-use crate::flows::read_nodes;
 use crate::trailer::read_trailer;
 use fields::Refusal;
+use records::Walk;
+use records::walk_nodes;
 
 // The sections' starts after the first, which is 0, and the place of the trailer.
 pub struct Sections {
@@ -55,42 +54,48 @@ pub enum HeadingRead {
     Refused(Refusal),
 }
 
-// Globals, externals, root and flows, front to back.
-fn read_sections(file: &[u8], c: Sections) -> Ended
+// What reading a file answers: its sections, how many of its records were kept, and how many there are; or the refusal.
+pub enum StoryRead {
+    At(Sections, usize, usize),
+    Refused(Refusal),
+}
+
+// Globals, externals, root and flows, front to back, the records kept.
+fn read_sections(file: &[u8], c: Sections, out: &mut [u32]) -> Walk
     requires { ⌜ InOrder c (now file) ⌝ }
-    ensures { λ r. ⌜ r ≡ endOf (ends (sectionsRead c (now (file .entry)))) ⌝ }
+    ensures { λ r. ⌜ Told (run keeping 0 (st (now (out .entry)) 0) (sectionsRead c (now (file .entry)))) r (now (out .exit)) ⌝ }
 {
     let externals = c.externals;
     let root = c.root;
     let flows = c.flows;
     let end = c.end;
     let globals_ended = read_names(&file[0..externals]);
-    let Ended::Well = globals_ended else {
-        return globals_ended;
-    };
+    if let Ended::Refused(r) = globals_ended {
+        return Walk::Refused(r);
+    }
     let externals_ended = read_names(&file[externals..root]);
-    let Ended::Well = externals_ended else {
-        return externals_ended;
+    if let Ended::Refused(r) = externals_ended {
+        return Walk::Refused(r);
+    }
+    let w = walk_nodes(&file[root..flows], root, out, 0);
+    let Walk::Done(m) = w else {
+        return w;
     };
-    let root_ended = read_nodes(&file[root..flows]);
-    let Ended::Well = root_ended else {
-        return root_ended;
-    };
-    read_flows(&file[flows..end])
+    read_flows(&file[flows..end], flows, out, m)
 }
 
-// The reading pass over a whole file: its sections, or the refusal.
-pub fn read(file: &[u8]) -> Opened
-    ensures { λ r. ⌜ ReadAs (now (file .entry)) r ⌝ }
+// READING a whole file, once: refusals 1 to 6, or its sections, with a number in the buffer for each record that is not plain.
+pub fn read(file: &[u8], items: &mut [u32]) -> StoryRead
+    ensures { λ r. ⌜ ReadAs (now (file .entry)) (now (items .entry)) r (now (items .exit)) ⌝ }
 {
     let opened = read_trailer(file);
     match opened {
-        Opened::Refused(r) => Opened::Refused(r),
+        Opened::Refused(r) => StoryRead::Refused(r),
         Opened::At(c) => {
-            let ended = read_sections(file, c);
-            match ended {
-                Ended::Refused(r) => Opened::Refused(r),
-                Ended::Well => opened,
+            let w = read_sections(file, c, items);
+            match w {
+                Walk::Refused(r) => StoryRead::Refused(r),
+                Walk::Done(n) => StoryRead::At(c, n % 4294967296, n / 4294967296),
             }
         }
     }

@@ -4,6 +4,7 @@ pub mod Labels
 pub mod Named
 pub mod Owners
 pub mod Placed
+pub mod Plain
 pub mod ReadBack
 pub mod Rows
 pub mod Searched

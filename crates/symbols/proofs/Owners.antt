@@ -8,7 +8,8 @@ use native.Mathlib.Omega.{arith}
 use lib.ListN.{length, length-map}
 use Rattle.names.specs.Words.{Sorted, only, each}
 use Rattle.story.specs.declared.Sections.{Sections}
-use Rattle.story.specs.Story.{Name, Item, Stitch, Flow, Story, ownName}
+use Rattle.records.specs.Items.{Item}
+use Rattle.story.specs.Story.{Name, Stitch, Flow, Story, ownName}
 use Rattle.story.specs.File.{storyIn}
 use Rattle.story.proofs.Readable.{Readable}
 use Rattle.story.proofs.Places.{NameBefore}

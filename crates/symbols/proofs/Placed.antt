@@ -6,13 +6,16 @@ use mathlib.Core.Option.{Option, none, some}
 use Prim.Native.Nat.{ℕ}
 use lib.ListN.{length, length-map}
 use Rattle.names.specs.Words.{Bytes, only, each}
-use Rattle.story.specs.Story.{Name, Item, Stitch, Flow, Story, ownName}
+use Rattle.records.specs.Items.{Item}
+use Rattle.story.specs.Story.{Name, Stitch, Flow, Story, ownName}
+use Rattle.story.specs.Plain.{withoutPlain, UnlabelledStory}
 use Rattle.symbols.specs.declared.Places.{Places}
 use Rattle.symbols.specs.Index.{Entry, alone, labelled, prefix, stitchEntries, flowEntries, entries}
 use Rattle.symbols.specs.Numbers.{absent, numberOf, placesOf, St, store, storeAll}
 use Rattle.symbols.specs.Placed.{placed, namesPlaced, labelsPlaced, prefixNumber, stitchPlaced}
 use Rattle.symbols.proofs.Named.{aloneAt}
 use Rattle.symbols.proofs.Stored.{store-append}
+use Rattle.symbols.proofs.Plain.{entries-plain}
 
 -- 1. Lists
 
@@ -129,3 +132,7 @@ module _ (s : St) {s₁ s₂ s₃ : St} where
       let own = labelsPlaced absent absent (t .root) in
       let rest = placed (each flowEntries (t .flows)) in
       c ∙ rw (story-placed t, store-append (first ++ own) rest s, store-append first own s, b, a)
+
+-- the plain items of a story change nothing, where they bear no label
+pub plain-stored : (s : St) {s₁ : St} (t : Story) → UnlabelledStory t → s₁ ≡ storeAll s (placed (entries (withoutPlain t))) → s₁ ≡ storeAll s (placed (entries t))
+plain-stored s t u e = e ∙ ap (λ (es : List Entry). storeAll s (placed es)) (entries-plain t u)

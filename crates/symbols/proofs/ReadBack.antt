@@ -9,9 +9,10 @@ use lib.ListN.{length, take, drop}
 use borrow.Author.Tests.{ne-eqb}
 use Rattle.names.specs.Words.{Bytes, each}
 use Rattle.names.proofs.Lists.{Every, every-append, every-each, of-only, in-each, in-only}
-use Rattle.records.specs.Window.{overlay}
+use Rattle.records.specs.Buffers.{overlay}
 use Rattle.story.specs.declared.Sections.{Sections}
-use Rattle.story.specs.Story.{Name, Item, Stitch, Flow, Story, ownName}
+use Rattle.records.specs.Items.{Item}
+use Rattle.story.specs.Story.{Name, Stitch, Flow, Story, ownName}
 use Rattle.story.specs.File.{storyIn}
 use Rattle.story.proofs.Readable.{Readable}
 use Rattle.story.proofs.Owned.{labelNames, stitchNames, flowNames, ownNames, story-own}

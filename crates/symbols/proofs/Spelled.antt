@@ -6,7 +6,8 @@ use mathlib.Core.Option.{Option, none, some}
 use lib.Dec.{T}
 use Rattle.names.specs.Words.{Bytes, each, _∈_}
 use Rattle.names.proofs.Lists.{in-only, of-only, in-each, Every, every-append, every-each}
-use Rattle.story.specs.Story.{Name, What, Item, Stitch, Flow, Story, words, ownName}
+use Rattle.records.specs.Items.{What, Item}
+use Rattle.story.specs.Story.{Name, Stitch, Flow, Story, words, ownName}
 use Rattle.symbols.specs.Index.{Entry, dotted, spelling, alone, labelled, prefix, stitchEntries, flowEntries, entries, spellings}
 use Rattle.symbols.specs.Spelled.{LabelIn, Spelled, global, root-label, flow, flow-parameter, flow-label, nameless-flow-label, stitch, stitch-parameter, stitch-label}
 

@@ -7,7 +7,7 @@ use native.Mathlib.Omega.{arith}
 use lib.ListN.{length, take, drop, take-append-drop, length-append, length-take, length-drop}
 use lib.Seq.{take-at, drop-append-add, drop-drop, sets-eq}
 use borrow.Author.Tests.{lt-ltb, le-ltb}
-use Rattle.records.specs.Window.{overlay}
+use Rattle.records.specs.Buffers.{overlay}
 use Rattle.symbols.specs.declared.Places.{Places}
 use Rattle.symbols.specs.Numbers.{numbers, St, st, noted, store, storeAll}
 

@@ -2,7 +2,8 @@
 use mathlib.Core.List.{List, [], _∷_, _++_, map}
 use mathlib.Core.Option.{Option, none, some}
 use Rattle.names.specs.Words.{Bytes, only, each}
-use Rattle.story.specs.Story.{Name, Item, Stitch, Flow, Story, ownName}
+use Rattle.records.specs.Items.{Item}
+use Rattle.story.specs.Story.{Name, Stitch, Flow, Story, ownName}
 
 -- an entry: flow, stitch, own name, where `none` is written 4,294,967,295 and a name as the place of its count byte
 pub record Entry : Type 0 where

@@ -2,8 +2,9 @@
 use mathlib.Core.List.{List, [], _∷_, _++_, map}
 use Prim.Native.Nat.{ℕ}
 use Rattle.names.specs.Words.{Bytes, only, each}
-use Rattle.records.specs.Window.{overlay}
-use Rattle.story.specs.Story.{Name, Item, Stitch, Story}
+use Rattle.records.specs.Buffers.{overlay}
+use Rattle.records.specs.Items.{Item}
+use Rattle.story.specs.Story.{Name, Stitch, Story}
 use Rattle.symbols.specs.declared.Places.{Places}
 use Rattle.symbols.specs.Index.{Entry, alone, entries}
 use Rattle.symbols.specs.Numbers.{absent, placesOf, numbers}

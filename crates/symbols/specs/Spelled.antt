@@ -3,7 +3,8 @@ use mathlib.Core.Path.{_≡_}
 use mathlib.Core.List.{List, [], _∷_, _++_}
 use lib.Dec.{T}
 use Rattle.names.specs.Words.{Bytes, _∈_}
-use Rattle.story.specs.Story.{What, Item, Stitch, Flow, Story, words, whats}
+use Rattle.records.specs.Items.{What, Item}
+use Rattle.story.specs.Story.{Stitch, Flow, Story, words, whats}
 
 -- the word is a label of the body
 abbrev pub LabelIn : List Item → Bytes → Type 0

@@ -1,25 +1,24 @@
 // The entries of a story, stored in the index.
 ghost use mathlib.Core.Path.{_≡_};
-ghost use mathlib.Core.List.{[], _∷_};
-ghost use Prim.Native.Nat.{_+_, _≤_, _<_};
+ghost use mathlib.Core.List.{List, [], _∷_, map};
+ghost use Prim.Native.Nat.{ℕ, _≤_, _<_};
 ghost use lib.ListN.{length, drop};
 ghost use Rattle.names.specs.Words.{each};
 ghost use Rattle.names.specs.Counted.{nameAt};
 ghost use Rattle.records.specs.Trace.{well, ends};
-ghost use Rattle.story.specs.Flows.{namesN, countedIn, part, stitch, flows, piecesIn, stitchIn, flowsIn, stitches};
-ghost use Rattle.story.specs.File.{readOf, storyIn};
-ghost use Rattle.searches.specs.Views.{viewedStitch, viewedFlow};
-ghost use Rattle.bodies.specs.Records.{itemFrom};
-ghost use Rattle.bodies.specs.Bodies.{bodyIn, Range};
+ghost use Rattle.story.specs.Plain.{flowWithoutPlain};
+ghost use Rattle.story.specs.Flows.{namesN, countedIn, part, flows, flowsIn, stitches};
+ghost use Rattle.story.specs.File.{storyIn};
+ghost use Rattle.records.specs.Numbers.{itemIn};
+ghost use Rattle.items.specs.Bodies.{Range, itemsAt, Rising, keptStitch, keptStitches, keptFlow, Kept, StitchesKept, FlowsKept};
 ghost use Rattle.symbols.specs.Index.{flowEntries, entries};
 ghost use Rattle.symbols.specs.Numbers.{st, store, storeAll};
 ghost use Rattle.symbols.specs.Placed.{placed, namesPlaced, labelsPlaced, prefixNumber, stitchPlaced};
 use crate::ABSENT;
 use crate::Places;
-use bodies::items::is_labelled;
-use bodies::items::named_at;
-use bodies::windows::count_items;
-use bodies::windows::fetch;
+use items::items::is_labelled;
+use items::items::named_at;
+use items::runs::body_items;
 use names::name_at;
 use searches::views::FlowView;
 use searches::views::FlowViewRead;
@@ -27,7 +26,6 @@ use searches::views::StitchView;
 use searches::views::StitchViewRead;
 use searches::views::flow_view;
 use searches::views::stitch_view;
-use story::Opened;
 use story::Sections;
 
 // Stores an entry after the n that the index has, where there is room; how many it has now.
@@ -93,21 +91,12 @@ fn put_params(file: &[u8], params: usize, index: &mut [u32], n: usize) -> usize
     )
 }
 
-// Stores the item at the place, if its name is a label.
-fn put_label(
-    file: &[u8],
-    place: usize,
-    tag: u32,
-    flow: u32,
-    stitch: u32,
-    index: &mut [u32],
-    n: usize,
-) -> usize
-    requires { ⌜ place ≤ 1048576 ⌝ }
-    ensures { λ r. ⌜ st (now (index .exit)) r ≡ storeAll (st (now (index .entry)) n) (labelsPlaced flow stitch (itemFrom (now (file .entry)) place tag ∷ [])) ⌝ }
+// Stores the item, if its name is a label.
+fn put_label(item: u32, flow: u32, stitch: u32, index: &mut [u32], n: usize) -> usize
+    ensures { λ r. ⌜ ((file : List ℕ) → st (now (index .exit)) r ≡ storeAll (st (now (index .entry)) n) (labelsPlaced flow stitch (itemIn file item ∷ []))) ⌝ }
 {
-    if is_labelled(file, place, tag) {
-        let own = named_at(file, place, tag);
+    if is_labelled(item) {
+        let own = named_at(item);
         return put_entry(
             index,
             n,
@@ -123,28 +112,18 @@ fn put_label(
 
 // Stores the labels of a body, with its flow's and its stitch's name.
 fn collect_labels_from_nodes(
-    file: &[u8],
-    from: usize,
-    to: usize,
+    items: &[u32],
     flow: u32,
     stitch: u32,
     index: &mut [u32],
     n: usize,
-    batch: &mut [u32],
 ) -> usize
-    requires { ⌜ Range (now file) from to ⌝ }
-    requires { ⌜ 2 ≤ length (now batch) ⌝ }
-    ensures { λ r. ⌜ st (now (index .exit)) r ≡ storeAll (st (now (index .entry)) n) (labelsPlaced flow stitch (bodyIn (now (file .entry)) from to)) ⌝ }
+    ensures { λ r. ⌜ ((file : List ℕ) → st (now (index .exit)) r ≡ storeAll (st (now (index .entry)) n) (labelsPlaced flow stitch (itemsAt file (now (items .entry))))) ⌝ }
 {
-    let end = count_items(file, from, to, batch);
     let mut count = n;
-    let mut skip = 0;
     let mut i = 0;
-    while i < end {
-        skip = fetch(file, from, to, i, skip, batch);
-        let at = 2 * (i - skip);
-        let place = batch[at] as usize;
-        count = put_label(file, place, batch[at + 1], flow, stitch, index, count);
+    while i < items.len() {
+        count = put_label(items[i], flow, stitch, index, count);
         i += 1;
     }
     count
@@ -153,15 +132,15 @@ fn collect_labels_from_nodes(
 // Stores a stitch: its name with its flow's, its parameters alone, its labels with both.
 fn put_stitch(
     file: &[u8],
+    kept: &[u32],
     v: StitchView,
     flow: u32,
     index: &mut [u32],
     n: usize,
-    batch: &mut [u32],
 ) -> usize
-    requires { ⌜ (v .name < v .params) × (v .params < v .from) × Range (now file) (v .from) (v .to) ⌝ }
-    requires { ⌜ 2 ≤ length (now batch) ⌝ }
-    ensures { λ r. ⌜ st (now (index .exit)) r ≡ storeAll (st (now (index .entry)) n) (stitchPlaced flow (viewedStitch (now (file .entry)) v)) ⌝ }
+    requires { ⌜ (v .name < v .params) × (v .params < length (now file)) × (length (now file) ≤ 1048576) ⌝ }
+    requires { ⌜ Rising (now kept) ⌝ }
+    ensures { λ r. ⌜ st (now (index .exit)) r ≡ storeAll (st (now (index .entry)) n) (stitchPlaced flow (keptStitch (now (file .entry)) (now (kept .entry)) v)) ⌝ }
 {
     let name = v.name as u32;
     let first = put_entry(
@@ -174,23 +153,23 @@ fn put_stitch(
         },
     );
     let second = put_params(file, v.params, index, first);
-    collect_labels_from_nodes(file, v.from, v.to, flow, name, index, second, batch)
+    collect_labels_from_nodes(body_items(kept, v.from, v.to), flow, name, index, second)
 }
 
 // Stores the stitches of a flow.
 fn put_stitches(
     file: &[u8],
+    kept: &[u32],
     from: usize,
     end: usize,
     flow: u32,
     index: &mut [u32],
     n: usize,
-    batch: &mut [u32],
 ) -> usize
     requires { ⌜ Range (now file) from end ⌝ }
     requires { ⌜ ends (stitches (part from end (now file))) ≡ well ⌝ }
-    requires { ⌜ 2 ≤ length (now batch) ⌝ }
-    ensures { λ r. ⌜ st (now (index .exit)) r ≡ storeAll (st (now (index .entry)) n) (each (stitchPlaced flow) (piecesIn stitchIn from (part from end (now (file .entry))))) ⌝ }
+    requires { ⌜ StitchesKept (now file) (now kept) from end ⌝ }
+    ensures { λ r. ⌜ st (now (index .exit)) r ≡ storeAll (st (now (index .entry)) n) (each (stitchPlaced flow) (keptStitches (now (file .entry)) from end)) ⌝ }
 {
     let mut at = from;
     let mut count = n;
@@ -198,7 +177,7 @@ fn put_stitches(
         let StitchViewRead::View(v) = stitch_view(file, at, end) else {
             return count;
         };
-        count = put_stitch(file, v, flow, index, count, batch);
+        count = put_stitch(file, kept, v, flow, index, count);
         at = v.end;
     }
 }
@@ -215,11 +194,11 @@ fn prefix_number(file: &[u8], name: usize) -> u32
 }
 
 // Stores a flow: its name and its parameters alone, its labels with its name, its stitches.
-fn put_flow(file: &[u8], v: FlowView, index: &mut [u32], n: usize, batch: &mut [u32]) -> usize
-    requires { ⌜ (v .name < v .params) × (v .params < v .from) × Range (now file) (v .from) (v .to) × Range (now file) (v .stitches) (v .end) ⌝ }
+fn put_flow(file: &[u8], kept: &[u32], v: FlowView, index: &mut [u32], n: usize) -> usize
+    requires { ⌜ (v .name < v .params) × (v .params < length (now file)) × Range (now file) (v .stitches) (v .end) ⌝ }
     requires { ⌜ ends (stitches (part (v .stitches) (v .end) (now file))) ≡ well ⌝ }
-    requires { ⌜ 2 ≤ length (now batch) ⌝ }
-    ensures { λ r. ⌜ st (now (index .exit)) r ≡ storeAll (st (now (index .entry)) n) (placed (flowEntries (viewedFlow (now (file .entry)) v))) ⌝ }
+    requires { ⌜ StitchesKept (now file) (now kept) (v .stitches) (v .end) ⌝ }
+    ensures { λ r. ⌜ st (now (index .exit)) r ≡ storeAll (st (now (index .entry)) n) (placed (flowEntries (keptFlow (now (file .entry)) (now (kept .entry)) v))) ⌝ }
 {
     let name = v.name as u32;
     let first = put_entry(
@@ -233,23 +212,24 @@ fn put_flow(file: &[u8], v: FlowView, index: &mut [u32], n: usize, batch: &mut [
     );
     let second = put_params(file, v.params, index, first);
     let prefix = prefix_number(file, v.name);
-    let third = collect_labels_from_nodes(file, v.from, v.to, prefix, ABSENT, index, second, batch);
-    put_stitches(file, v.stitches, v.end, name, index, third, batch)
+    let own = body_items(kept, v.from, v.to);
+    let third = collect_labels_from_nodes(own, prefix, ABSENT, index, second);
+    put_stitches(file, kept, v.stitches, v.end, name, index, third)
 }
 
 // Stores the flows of a story.
 fn put_flows(
     file: &[u8],
+    kept: &[u32],
     from: usize,
     end: usize,
     index: &mut [u32],
     n: usize,
-    batch: &mut [u32],
 ) -> usize
     requires { ⌜ Range (now file) from end ⌝ }
     requires { ⌜ ends (flows (part from end (now file))) ≡ well ⌝ }
-    requires { ⌜ 2 ≤ length (now batch) ⌝ }
-    ensures { λ r. ⌜ st (now (index .exit)) r ≡ storeAll (st (now (index .entry)) n) (placed (each flowEntries (flowsIn from (part from end (now (file .entry)))))) ⌝ }
+    requires { ⌜ FlowsKept (now file) (now kept) from end ⌝ }
+    ensures { λ r. ⌜ st (now (index .exit)) r ≡ storeAll (st (now (index .entry)) n) (placed (each flowEntries (map flowWithoutPlain (flowsIn from (part from end (now (file .entry))))))) ⌝ }
 {
     let mut at = from;
     let mut count = n;
@@ -257,27 +237,18 @@ fn put_flows(
         let FlowViewRead::View(v) = flow_view(file, at, end) else {
             return count;
         };
-        count = put_flow(file, v, index, count, batch);
+        count = put_flow(file, kept, v, index, count);
         at = v.end;
     }
 }
 
-// Writes the index of a readable file: globals, labels of the root, flows. The entry count.
-pub fn write_index(file: &[u8], c: Sections, index: &mut [u32], batch: &mut [u32]) -> usize
-    requires { ⌜ readOf (now file) ≡ Opened.At c ⌝ }
-    requires { ⌜ 2 ≤ length (now batch) ⌝ }
+// Writes the index of a readable file by its kept numbers: globals, labels of the root, flows. The entry count.
+pub fn write_index(file: &[u8], c: Sections, kept: &[u32], index: &mut [u32]) -> usize
+    requires { ⌜ Kept (now file) c (now kept) ⌝ }
     ensures { λ r. ⌜ st (now (index .exit)) r ≡ storeAll (st (now (index .entry)) 0) (placed (entries (storyIn c (now (file .entry))))) ⌝ }
 {
     let globals = put_names(file, c.externals, 0, c.externals, index, 0);
-    let root = collect_labels_from_nodes(
-        file,
-        c.root,
-        c.flows,
-        ABSENT,
-        ABSENT,
-        index,
-        globals,
-        batch,
-    );
-    put_flows(file, c.flows, c.end, index, root, batch)
+    let own = body_items(kept, c.root, c.flows);
+    let root = collect_labels_from_nodes(own, ABSENT, ABSENT, index, globals);
+    put_flows(file, kept, c.flows, c.end, index, root)
 }

@@ -7,7 +7,7 @@ use Prim.Native.Nat.{ℕ, _≤_}
 use native.Mathlib.Omega.{arith}
 use lib.ListN.{length, replicate, length-replicate}
 use borrow.Author.Tests.{le-ltb}
-use Rattle.records.specs.Window.{overlay}
+use Rattle.records.specs.Buffers.{overlay}
 use Rattle.rules.specs.Steps.{Breach, verdict}
 use Rattle.rules.specs.Reader.{Readable, storyAt, storyOf}
 use Rattle.rules.proofs.FileDemand.{file-demand3}

@@ -9,7 +9,7 @@ use Rattle.rules.specs.declared.Rule.the-variants.{FunctionDivertedTo, TargetNo
 use Rattle.rules.specs.Rules.{number}
 use Rattle.validator.specs.declared.Answer.{Answer}
 use Rattle.validator.specs.declared.Answer.the-variants.{Accepted, Breached, Unreadable, ShortIndex, ShortMessage}
-use Rattle.validator.specs.Results.{Judged, accepted, breach, Result, refused, checked, resultOf}
+use Rattle.validator.specs.Results.{accepted, breach, Result, refused, checked, resultOf}
 
 -- the rules by their numbers
 rules : List Rule

@@ -1,10 +1,9 @@
 -- P1 to P10 as one table: input, lengths of the buffers, and what the check reports; rows beside them; and an example of each refusal. Assumes nothing.
 use mathlib.Core.Path.{_≡_, refl}
-use mathlib.Core.Bool.{Bool, true, false}
 use mathlib.Core.List.{List, [], _∷_, _++_, map, List·Memᴰ·not-nil, List·Memᴰ·cases-cons, List·Memᴰ·append-cases}
 use mathlib.Core.Logic.{⊎-elim}
 use Prim.Native.Nat.{ℕ, zero, suc, _+_, _-_, _*_, _/_, _%_}
-use Prim.Native.Char.{Char, code}
+use Prim.Native.Char.{code}
 use Prim.Native.String.{String, [] as empty, _∷_ as _then_}
 use lib.Dec.{ltb}
 use lib.ListN.{length}
@@ -17,7 +16,7 @@ use Rattle.names.specs.Counted.{nameAt}
 use Rattle.names.specs.Reserved.{builtins}
 use Rattle.records.specs.Trace.{andThen, shift, met, ends}
 use Rattle.records.specs.Grammar.{frontAt, ending, repeatN, repeat, exact, listedAt, namedAt, flaggedAt, moded, last, orElse, arms, options, tested, branch, bodyOf, whole, tooDeep, recordOf, nodes}
-use Rattle.story.specs.Items.{nameIn, sortOf, nameStart, nameless, recordName, labelled as isLabelled, inBranch, endingAt, endingN, endWithDivert, spanned, past, unlabelled, choiceBody, leaves, whatOf, itemAs, itemOf, itemsAs, itemsIn}
+use Rattle.records.specs.Items.{nameIn, sortOf, nameStart, nameless, recordName, labelled as isLabelled, inBranch, endingAt, endingN, endWithDivert, spanned, past, unlabelled, choiceBody, leaves, whatOf, itemAs, itemOf, itemsAs, itemsIn}
 use Rattle.story.specs.Headings.{reachAt, namesReach, countedReach, listAt, marksAt, paramsAt, nameThen, headingOf}
 use Rattle.story.specs.Flows.{names, namesThen, counted, pieceAt, titled, stitch, flow, flows, namesN, namesIn, countedIn, part, titledAt, titledIn, piecesAt, piecesN, piecesIn, stitchIn, stitchesFrom, flowIn, flowsIn}
 use Rattle.story.specs.File.{marked, startAt, openedOf, sectionsRead, readEnded, readAt, readOf, storyIn}
@@ -27,7 +26,7 @@ use Rattle.rules.specs.Rules.{broken, known, here}
 use Rattle.rules.specs.Steps.{over, stitchRuns, flowRuns, runs, breaches, verdict}
 use Rattle.messages.specs.Messages.{message}
 use Rattle.validator.specs.declared.Answer.{Answer}
-use Rattle.validator.specs.Results.{Judged, accepted, breach, Result, refused, checked}
+use Rattle.validator.specs.Results.{accepted, breach, Result, refused, checked}
 use Rattle.validator.specs.Check.{judgedOf, textOf, Report, storyReport, reportAt, reportOf}
 use Rattle.validator.specs.Checked.{Reported, Checked}
 

@@ -1,15 +1,15 @@
 -- 01's impostors, refuted: on a small file, with buffers that are long enough, the wrong answer does not meet the contract of a check. Assumes nothing.
-use mathlib.Core.Path.{_≡_, refl, sym, _∙_, ap}
+use mathlib.Core.Path.{_≡_, refl, _∙_, ap}
 use mathlib.Core.List.{List, [], _∷_, _++_, map}
 use Prim.Native.Nat.{ℕ, _≤_}
 use native.Mathlib.Omega.{arith}
-use lib.ListN.{length, getD, drop}
+use lib.ListN.{length, getD}
 use borrow.Author.Tests.{le-ltb}
 use Rattle.fields.specs.declared.Refusal.the-variants.{Short}
 use Rattle.fields.specs.Refusals.{refusalNumber}
 use Rattle.names.specs.Words.{Bytes}
 use Rattle.names.specs.Text.{ascii}
-use Rattle.records.specs.Window.{overlay}
+use Rattle.records.specs.Buffers.{overlay}
 use Rattle.story.specs.declared.Opened.{Opened}
 use Rattle.story.specs.declared.Opened.the-variants as opened
 use Rattle.story.specs.File.{readOf}
@@ -17,7 +17,7 @@ use Rattle.symbols.specs.Numbers.{absent, indexRoom}
 use Rattle.validator.specs.declared.Answer.{Answer}
 use Rattle.validator.specs.declared.Answer.the-variants.{Accepted, Breached, Unreadable}
 use Rattle.validator.specs.declared.Breach.{Breach}
-use Rattle.validator.specs.Results.{Judged, accepted, breach, Result, refused, checked, resultOf}
+use Rattle.validator.specs.Results.{accepted, breach, checked, resultOf}
 use Rattle.validator.specs.Check.{Report, refusing, reportAt, reportOf}
 use Rattle.validator.specs.Checked.{Reported, Checked}
 use Rattle.validator.proofs.Examples.{hex, Row, row, reported, table, examples}

@@ -2,7 +2,6 @@
 use mathlib.Core.Path.{_≡_, refl, sym, _∙_, ap}
 use mathlib.Core.Bool.{Bool, true, false}
 use mathlib.Core.List.{List, []}
-use mathlib.Core.Logic.{_↔_}
 use mathlib.Core.Option.{Option, none, some}
 use Prim.Native.Nat.{ℕ, _-_, _*_, _≤_}
 use native.Mathlib.Omega.{arith}
@@ -10,7 +9,7 @@ use lib.Dec.{ltb}
 use lib.ListN.{length, length-append}
 use Rattle.fields.specs.declared.Refusal.{Refusal}
 use Rattle.fields.specs.Bytes.{pick}
-use Rattle.records.specs.Window.{overlay}
+use Rattle.records.specs.Buffers.{overlay}
 use Rattle.story.specs.declared.Sections.{Sections}
 use Rattle.story.specs.declared.Opened.{Opened}
 use Rattle.story.specs.declared.Opened.the-variants as opened
@@ -22,7 +21,7 @@ use Rattle.rules.proofs.Least.{Least}
 use Rattle.rules.proofs.FileDemand.{file-demand3}
 use Rattle.validator.specs.declared.Answer.{Answer}
 use Rattle.validator.specs.declared.Answer.the-variants.{Unreadable}
-use Rattle.validator.specs.Results.{Judged, accepted, breach, Result, refused, checked, resultOf}
+use Rattle.validator.specs.Results.{Judged, accepted, breach, refused, checked, resultOf}
 use Rattle.validator.specs.Check.{judgedOf, textOf, Report, refusing, storyReport, reportAt, reportOf}
 use Rattle.validator.specs.Checked.{Reported, FirstBreach, Right, Checked}
 
@@ -144,13 +143,13 @@ judges {file} {index} {message} {j = j} {n = n} {k = k} p e =
     record { readable = record { sections = q .sections; told = q .opens }; verdict-is = q .judges }
 
 -- refusals 1 to 6
-pub unreadable : {o : Opened} {r : Refusal} {file index message : List ℕ} → o ≡ readOf file → o ≡ opened.Refused r → Checked file index message (Unreadable r) index message
+pub unreadable : {r : Refusal} {file index message : List ℕ} → readOf file ≡ opened.Refused r → Checked file index message (Unreadable r) index message
 unfolding reportOf reportAt resultOf overlay
-unreadable e f = promised (rw (← e, f) (record { result = refl; index-is = refl; message-is = refl }))
+unreadable e = promised (rw e (record { result = refl; index-is = refl; message-is = refl }))
 
 -- a readable file
-pub opens : {o : Opened} {c : Sections} {file index message : List ℕ} {a : Answer} {index′ message′ : List ℕ} → o ≡ readOf file → o ≡ opened.At c
+pub opens : {c : Sections} {file index message : List ℕ} {a : Answer} {index′ message′ : List ℕ} → readOf file ≡ opened.At c
     → Reported (reportAt (opened.At c) file (length index) (length message)) index message a index′ message′
     → Checked file index message a index′ message′
 unfolding reportOf
-opens e f p = promised (rw (← e, f) p)
+opens e p = promised (rw e p)

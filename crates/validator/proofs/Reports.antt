@@ -1,24 +1,23 @@
 -- What the parts of a check leave is as reported: the index, the verdict with its text, and the tests on the buffers. Assumes nothing.
 use mathlib.Core.Path.{_≡_, refl, sym, _∙_, ap}
-use mathlib.Core.Bool.{Bool, true, false}
-use mathlib.Core.List.{List, []}
+use mathlib.Core.List.{List}
 use mathlib.Core.Option.{Option, none, some}
 use Prim.Native.Nat.{ℕ, _-_, _*_, _≤_, _<_}
 use native.Mathlib.Omega.{arith}
 use lib.ListN.{length}
 use borrow.Author.Tests.{lt-ltb, le-ltb}
-use Rattle.records.specs.Window.{overlay}
+use Rattle.records.specs.Buffers.{overlay}
 use Rattle.story.specs.declared.Sections.{Sections}
 use Rattle.story.specs.declared.Opened.the-variants as opened
-use Rattle.story.specs.Story.{Story}
 use Rattle.story.specs.File.{readOf, storyIn}
 use Rattle.story.proofs.Readable.{readable}
+use Rattle.story.proofs.Plain.{story-unlabelled}
 use Rattle.symbols.specs.Index.{entries}
 use Rattle.symbols.specs.Numbers.{St, st, storeAll}
 use Rattle.symbols.specs.Placed.{placed, indexOf}
 use Rattle.symbols.proofs.Owners.{index-written}
 use Rattle.symbols.proofs.ReadBack.{index-read}
-use Rattle.rules.specs.Rules.{number}
+use Rattle.symbols.proofs.Plain.{spellings-plain}
 use Rattle.rules.specs.Steps.{Breach, verdict}
 use Rattle.context.specs.declared.BreachAt.{BreachAt}
 use Rattle.context.specs.declared.Found.{Found}
@@ -56,7 +55,7 @@ module _ (file : List ℕ) {c : Sections} (good : readOf file ≡ opened.At c) w
   pub ready : {before after : List ℕ} {n : ℕ} → Written file c before after n → {functions : List ℕ} → Functions file c functions → Ready file c after n functions
   ready {before} w known =
       let r = readable file c refl good in
-      record { sections = r .order; spelled = rw (w .entries-are, w .index-is) (index-read c file r before); functions-known = known }
+      record { sections = r .order; spelled = rw (w .entries-are, w .index-is) (index-read c file r before) ∙ sym (spellings-plain (storyIn c file) (story-unlabelled c file)); functions-known = known }
 
 -- 2. The story
 

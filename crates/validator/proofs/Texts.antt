@@ -7,7 +7,7 @@ use lib.ListN.{length, getD}
 use Rattle.names.specs.Words.{Bytes}
 use Rattle.names.specs.Counted.{nameAt}
 use Rattle.names.proofs.Counted.{name-length}
-use Rattle.records.specs.Window.{overlay}
+use Rattle.records.specs.Buffers.{overlay}
 use Rattle.rules.specs.declared.Rule.{Rule}
 use Rattle.messages.specs.Messages.{Message}
 use Rattle.validator.specs.declared.Answer.the-variants.{Breached}

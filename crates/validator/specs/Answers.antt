@@ -5,7 +5,7 @@ use mathlib.Core.List.{List}
 use lib.ListN.{length}
 use Rattle.names.specs.Words.{Bytes}
 use Rattle.names.specs.Counted.{nameAt}
-use Rattle.records.specs.Window.{overlay}
+use Rattle.records.specs.Buffers.{overlay}
 use Rattle.rules.specs.declared.Rule.{Rule}
 use Rattle.messages.specs.Messages.{message}
 use Rattle.validator.specs.declared.Answer.{Answer}

@@ -1,6 +1,6 @@
 -- THE CHECK, for any bytes and any buffers: its result, and what it leaves in the index and in the message buffer.
 use Prim.Native.Nat.{ℕ}
-use mathlib.Core.List.{List, [], _∷_, map}
+use mathlib.Core.List.{List, [], map}
 use mathlib.Core.Option.{Option, none, some}
 use lib.ListN.{length}
 use lib.Dec.{ltb}
@@ -8,7 +8,6 @@ use Rattle.fields.specs.Bytes.{pick}
 use Rattle.fields.specs.Refusals.{refusalNumber}
 use Rattle.names.specs.Words.{Bytes}
 use Rattle.names.specs.Counted.{nameAt}
-use Rattle.records.specs.Window.{overlay}
 use Rattle.story.specs.declared.Opened.{Opened}
 use Rattle.story.specs.declared.Opened.the-variants as opened
 use Rattle.story.specs.Story.{Story}

@@ -4,14 +4,14 @@ use mathlib.Core.Path.{_≡_}
 use mathlib.Core.List.{List}
 use mathlib.Core.Logic.{_⊎_, _↔_}
 use lib.ListN.{length}
-use Rattle.records.specs.Window.{overlay}
+use Rattle.records.specs.Buffers.{overlay}
 use Rattle.story.specs.Story.{Story}
 use Rattle.rules.specs.Rules.{number}
 use Rattle.rules.specs.Steps.{Breach, Later}
 use Rattle.rules.specs.Meaning.{Stands}
 use Rattle.rules.specs.Reader.{storyOf}
 use Rattle.validator.specs.declared.Answer.{Answer}
-use Rattle.validator.specs.Results.{Judged, accepted, breach, Result, refused, checked, resultOf}
+use Rattle.validator.specs.Results.{Judged, accepted, breach, refused, checked, resultOf}
 use Rattle.validator.specs.Check.{Report, reportOf}
 
 -- an answer and two buffers are as reported: numbers and text at the buffers' starts, the rest as it was

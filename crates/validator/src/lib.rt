@@ -1,10 +1,9 @@
 // The check of a story file: refusals, index, rules and text.
-ghost use mathlib.Core.Path.{_≡_};
-ghost use Prim.Native.Nat.{_≤_, _*_, _-_};
+ghost use Prim.Native.Nat.{_≤_, _*_};
 ghost use lib.ListN.{length};
 ghost use Rattle.story.specs.declared.Opened.the-variants as Opened;
-ghost use Rattle.story.specs.File.{readOf, storyIn};
-ghost use Rattle.rules.specs.Steps.{verdict};
+ghost use Rattle.story.specs.File.{storyIn};
+ghost use Rattle.items.specs.Bodies.{Kept};
 ghost use Rattle.validator.specs.Answers.{Told};
 ghost use Rattle.validator.specs.Check.{storyReport, reportAt};
 ghost use Rattle.validator.specs.Checked.{Reported, Checked};
@@ -14,8 +13,8 @@ use fields::Refusal;
 use messages::write_message;
 use names::name_at;
 use rules::Rule;
-use story::Opened;
 use story::Sections;
+use story::StoryRead;
 use story::read;
 use symbols::entries::write_index;
 use tables::functions::put_functions;
@@ -64,38 +63,35 @@ fn write_breach(
     })
 }
 
-// Writes the index, runs the twenty steps, and answers; where there is a breach, writes its text. Works in the last six buffers.
+// Writes the index, runs the twenty steps, and answers; where there is a breach, writes its text. Works in the last four buffers.
 fn check_story(
     file: &[u8],
     c: Sections,
+    kept: &[u32],
     index: &mut [u32],
     message: &mut [u8],
     functions: &mut [u32],
     hints: &mut [u32],
     declared: &mut [u8],
     gathers: &mut [u8],
-    batch: &mut [u32],
-    scratch: &mut [u32],
 ) -> Answer
-    requires { ⌜ readOf (now file) ≡ Opened.At c ⌝ }
+    requires { ⌜ Kept (now file) c (now kept) ⌝ }
     requires { ⌜ (3 * c .end ≤ length (now index)) × (640 ≤ length (now message)) ⌝ }
-    requires { ⌜ (2 ≤ length (now batch)) × (2 ≤ length (now scratch)) ⌝ }
     ensures { λ r. ⌜ Reported (storyReport (now (file .entry)) (storyIn c (now (file .entry)))) (now (index .entry)) (now (message .entry)) r (now (index .exit)) (now (message .exit)) ⌝ }
 {
-    let entries = write_index(file, c, index, batch);
+    let entries = write_index(file, c, kept, index);
     put_functions(file, c, functions);
     put_hints(file, index, entries, hints);
     let found = validate_story(
         file,
         c,
+        kept,
         index,
         entries,
         functions,
         hints,
         declared,
         gathers,
-        batch,
-        scratch,
     );
     match found {
         Found::Clear => Answer::Accepted(entries),
@@ -106,87 +102,19 @@ fn check_story(
     }
 }
 
-// The story of a file of at most 4,096 bytes, in buffers of some 12 KB.
-fn check_short(file: &[u8], c: Sections, index: &mut [u32], message: &mut [u8]) -> Answer
-    requires { ⌜ readOf (now file) ≡ Opened.At c ⌝ }
-    requires { ⌜ (3 * c .end ≤ length (now index)) × (640 ≤ length (now message)) ⌝ }
-    ensures { λ r. ⌜ Reported (storyReport (now (file .entry)) (storyIn c (now (file .entry)))) (now (index .entry)) (now (message .entry)) r (now (index .exit)) (now (message .exit)) ⌝ }
-{
-    let mut functions = [0u32; 256];
-    let mut hints = [0u32; 1024];
-    let mut declared = [0u8; 256];
-    let mut gathers = [0u8; 1024];
-    let mut batch = [0u32; 1024];
-    let mut scratch = [0u32; 512];
-    check_story(
-        file,
-        c,
-        index,
-        message,
-        &mut functions,
-        &mut hints,
-        &mut declared,
-        &mut gathers,
-        &mut batch,
-        &mut scratch,
-    )
-}
-
-// The story of a file of at most 65,536 bytes, in buffers of some 123 KB.
-fn check_middling(file: &[u8], c: Sections, index: &mut [u32], message: &mut [u8]) -> Answer
-    requires { ⌜ readOf (now file) ≡ Opened.At c ⌝ }
-    requires { ⌜ (3 * c .end ≤ length (now index)) × (640 ≤ length (now message)) ⌝ }
-    ensures { λ r. ⌜ Reported (storyReport (now (file .entry)) (storyIn c (now (file .entry)))) (now (index .entry)) (now (message .entry)) r (now (index .exit)) (now (message .exit)) ⌝ }
-{
-    let mut functions = [0u32; 8192];
-    let mut hints = [0u32; 8192];
-    let mut declared = [0u8; 8192];
-    let mut gathers = [0u8; 8192];
-    let mut batch = [0u32; 8192];
-    let mut scratch = [0u32; 2048];
-    check_story(
-        file,
-        c,
-        index,
-        message,
-        &mut functions,
-        &mut hints,
-        &mut declared,
-        &mut gathers,
-        &mut batch,
-        &mut scratch,
-    )
-}
-
-// The story of a longer file, in buffers of some 1.1 MB.
-fn check_long(file: &[u8], c: Sections, index: &mut [u32], message: &mut [u8]) -> Answer
-    requires { ⌜ readOf (now file) ≡ Opened.At c ⌝ }
-    requires { ⌜ (3 * c .end ≤ length (now index)) × (640 ≤ length (now message)) ⌝ }
-    ensures { λ r. ⌜ Reported (storyReport (now (file .entry)) (storyIn c (now (file .entry)))) (now (index .entry)) (now (message .entry)) r (now (index .exit)) (now (message .exit)) ⌝ }
-{
-    let mut functions = [0u32; 65536];
-    let mut hints = [0u32; 98304];
-    let mut declared = [0u8; 32768];
-    let mut gathers = [0u8; 131072];
-    let mut batch = [0u32; 32768];
-    let mut scratch = [0u32; 32768];
-    check_story(
-        file,
-        c,
-        index,
-        message,
-        &mut functions,
-        &mut hints,
-        &mut declared,
-        &mut gathers,
-        &mut batch,
-        &mut scratch,
-    )
-}
-
-// The check of a readable file: refusals 7 and 8, and then its story.
-fn check_readable(file: &[u8], c: Sections, index: &mut [u32], message: &mut [u8]) -> Answer
-    requires { ⌜ readOf (now file) ≡ Opened.At c ⌝ }
+// The check of a readable file, by the numbers kept of it: refusals 7 and 8, and then its story.
+fn check_readable(
+    file: &[u8],
+    c: Sections,
+    kept: &[u32],
+    index: &mut [u32],
+    message: &mut [u8],
+    functions: &mut [u32],
+    hints: &mut [u32],
+    declared: &mut [u8],
+    gathers: &mut [u8],
+) -> Answer
+    requires { ⌜ Kept (now file) c (now kept) ⌝ }
     ensures { λ r. ⌜ Reported (reportAt (Opened.At c) (now (file .entry)) (length (now (index .entry))) (length (now (message .entry)))) (now (index .entry)) (now (message .entry)) r (now (index .exit)) (now (message .exit)) ⌝ }
 {
     if index.len() < 3 * c.end {
@@ -195,22 +123,127 @@ fn check_readable(file: &[u8], c: Sections, index: &mut [u32], message: &mut [u8
     if message.len() < 640 {
         return Answer::ShortMessage;
     }
-    if file.len() <= 4096 {
-        return check_short(file, c, index, message);
+    check_story(
+        file,
+        c,
+        kept,
+        index,
+        message,
+        functions,
+        hints,
+        declared,
+        gathers,
+    )
+}
+
+// The check of a file, in buffers that are lent for it. The first is for the numbers kept, of which a file has at most one for six bytes.
+fn check_in(
+    file: &[u8],
+    index: &mut [u32],
+    message: &mut [u8],
+    items: &mut [u32],
+    functions: &mut [u32],
+    hints: &mut [u32],
+    declared: &mut [u8],
+    gathers: &mut [u8],
+) -> Answer
+    requires { ⌜ (length (now file) ≤ 1048576 → length (now file) ≤ 6 * length (now items)) ⌝ }
+    ensures { λ r. ⌜ Checked (now (file .entry)) (now (index .entry)) (now (message .entry)) r (now (index .exit)) (now (message .exit)) ⌝ }
+{
+    let answer = read(file, items);
+    match answer {
+        StoryRead::Refused(r) => Answer::Unreadable(r),
+        StoryRead::At(c, n, _) => {
+            let kept = &items[..n];
+            check_readable(
+                file,
+                c,
+                kept,
+                index,
+                message,
+                functions,
+                hints,
+                declared,
+                gathers,
+            )
+        }
     }
-    if file.len() <= 65536 {
-        return check_middling(file, c, index, message);
-    }
-    check_long(file, c, index, message)
+}
+
+// A file of at most 4,096 bytes, in buffers of some 9 KB.
+fn check_short(file: &[u8], index: &mut [u32], message: &mut [u8]) -> Answer
+    requires { ⌜ length (now file) ≤ 4096 ⌝ }
+    ensures { λ r. ⌜ Checked (now (file .entry)) (now (index .entry)) (now (message .entry)) r (now (index .exit)) (now (message .exit)) ⌝ }
+{
+    let mut items = [0u32; 683];
+    let mut functions = [0u32; 256];
+    let mut hints = [0u32; 1024];
+    let mut declared = [0u8; 256];
+    let mut gathers = [0u8; 1024];
+    check_in(
+        file,
+        index,
+        message,
+        &mut items,
+        &mut functions,
+        &mut hints,
+        &mut declared,
+        &mut gathers,
+    )
+}
+
+// A file of at most 65,536 bytes, in buffers of some 126 KB.
+fn check_middling(file: &[u8], index: &mut [u32], message: &mut [u8]) -> Answer
+    requires { ⌜ length (now file) ≤ 65536 ⌝ }
+    ensures { λ r. ⌜ Checked (now (file .entry)) (now (index .entry)) (now (message .entry)) r (now (index .exit)) (now (message .exit)) ⌝ }
+{
+    let mut items = [0u32; 10923];
+    let mut functions = [0u32; 8192];
+    let mut hints = [0u32; 8192];
+    let mut declared = [0u8; 8192];
+    let mut gathers = [0u8; 8192];
+    check_in(
+        file,
+        index,
+        message,
+        &mut items,
+        &mut functions,
+        &mut hints,
+        &mut declared,
+        &mut gathers,
+    )
+}
+
+// A longer file, in buffers of some 1.5 MB.
+fn check_long(file: &[u8], index: &mut [u32], message: &mut [u8]) -> Answer
+    ensures { λ r. ⌜ Checked (now (file .entry)) (now (index .entry)) (now (message .entry)) r (now (index .exit)) (now (message .exit)) ⌝ }
+{
+    let mut items = [0u32; 174763];
+    let mut functions = [0u32; 65536];
+    let mut hints = [0u32; 98304];
+    let mut declared = [0u8; 32768];
+    let mut gathers = [0u8; 131072];
+    check_in(
+        file,
+        index,
+        message,
+        &mut items,
+        &mut functions,
+        &mut hints,
+        &mut declared,
+        &mut gathers,
+    )
 }
 
 // THE CHECK of a file. The index wants three numbers for each byte before the trailer, the message buffer 640 bytes.
 pub fn check(file: &[u8], index: &mut [u32], message: &mut [u8]) -> Answer
     ensures { λ r. ⌜ Checked (now (file .entry)) (now (index .entry)) (now (message .entry)) r (now (index .exit)) (now (message .exit)) ⌝ }
 {
-    let opened = read(file);
-    match opened {
-        Opened::Refused(r) => Answer::Unreadable(r),
-        Opened::At(c) => check_readable(file, c, index, message),
+    if file.len() <= 4096 {
+        return check_short(file, index, message);
     }
+    if file.len() <= 65536 {
+        return check_middling(file, index, message);
+    }
+    check_long(file, index, message)
 }

@@ -1,4 +1,6 @@
-//! Reads a file front to back into a tree with places, or gives the refusal first met.
+//! Reads a file front to back into a tree with places, or gives the refusal first met; and lists the records met on the way.
+
+use std::cell::RefCell;
 
 /// A piece, or the number of the refusal.
 pub type Reading<T> = Result<T, u8>;
@@ -82,8 +84,39 @@ pub struct Condition<'f> {
     pub value: Option<Expression<'f>>,
 }
 
-/// Refusals 1, 2 and 3, then the four sections in order.
+/// What a record is by where it stands.
+#[derive(Debug, Clone, Copy, PartialEq, Eq)]
+pub enum Class {
+    Node,
+    Expression,
+    Condition,
+}
+
+/// A record met: its header was read and not refused, whatever is then found in its payload.
+#[derive(Debug)]
+pub struct Record {
+    pub place: u32,
+    pub class: Class,
+    pub kind: u8,
+    pub depth: u32,
+    /// The payload's first byte, if it has one.
+    pub first: Option<u8>,
+}
+
+/// The story, or the refusal.
 pub fn read(file: &[u8]) -> Reading<Story<'_>> {
+    read_met(file).0
+}
+
+/// The story, or the refusal; and the records met up to there, front to back.
+pub fn read_met(file: &[u8]) -> (Reading<Story<'_>>, Vec<Record>) {
+    let met = RefCell::new(Vec::new());
+    let story = sections(file, &met);
+    (story, met.into_inner())
+}
+
+/// Refusals 1, 2 and 3, then the four sections in order.
+fn sections<'f>(file: &'f [u8], met: &RefCell<Vec<Record>>) -> Reading<Story<'f>> {
     if file.len() < 20 || file.len() > 1_048_576 {
         return Err(1);
     }
@@ -96,7 +129,12 @@ pub fn read(file: &[u8]) -> Reading<Story<'_>> {
     if starts[0] != 0 || falls || starts[3] > trailer {
         return Err(3);
     }
-    let part = |from, to| Part { file, at: from, to };
+    let part = |from, to| Part {
+        file,
+        at: from,
+        to,
+        met,
+    };
     Ok(Story {
         globals: part(starts[0], starts[1]).until_end(name)?,
         externals: part(starts[1], starts[2]).until_end(name)?,
@@ -111,16 +149,17 @@ fn number_at(file: &[u8], place: usize) -> usize {
     byte(0) + byte(1) + byte(2) + byte(3)
 }
 
-/// A container that is being read: the bytes from `at` to `to`.
-struct Part<'f> {
+/// A container that is being read: the bytes from `at` to `to`, and the list of records met.
+struct Part<'m, 'f> {
     file: &'f [u8],
     at: usize,
     to: usize,
+    met: &'m RefCell<Vec<Record>>,
 }
 
-impl<'f> Part<'f> {
+impl<'m, 'f> Part<'m, 'f> {
     /// Takes `count` bytes, which must be there.
-    fn take(&mut self, count: usize) -> Reading<Part<'f>> {
+    fn take(&mut self, count: usize) -> Reading<Self> {
         if self.to - self.at < count {
             return Err(4);
         }
@@ -129,6 +168,7 @@ impl<'f> Part<'f> {
             file: self.file,
             at: self.at - count,
             to: self.at,
+            met: self.met,
         })
     }
 
@@ -148,13 +188,13 @@ impl<'f> Part<'f> {
     }
 
     /// A 32-bit length, then the part that has it.
-    fn sized(&mut self) -> Reading<Part<'f>> {
+    fn sized(&mut self) -> Reading<Self> {
         let field = self.take(4)?;
         self.take(number_at(self.file, field.at))
     }
 
     /// Pieces until nothing is left.
-    fn until_end<T>(&mut self, piece: impl Fn(&mut Part<'f>) -> Reading<T>) -> Reading<Vec<T>> {
+    fn until_end<T>(&mut self, piece: impl Fn(&mut Self) -> Reading<T>) -> Reading<Vec<T>> {
         let mut pieces = Vec::new();
         while self.at != self.to {
             pieces.push(piece(self)?);
@@ -172,7 +212,7 @@ impl<'f> Part<'f> {
 }
 
 /// Count byte, then so many bytes.
-fn name<'f>(part: &mut Part<'f>) -> Reading<Name<'f>> {
+fn name<'f>(part: &mut Part<'_, 'f>) -> Reading<Name<'f>> {
     let place = part.at as u32;
     let count = part.byte()?;
     let bytes = part.take(count as usize)?;
@@ -183,7 +223,7 @@ fn name<'f>(part: &mut Part<'f>) -> Reading<Name<'f>> {
 }
 
 /// Count byte, then so many names.
-fn parameters<'f>(part: &mut Part<'f>) -> Reading<Vec<Name<'f>>> {
+fn parameters<'f>(part: &mut Part<'_, 'f>) -> Reading<Vec<Name<'f>>> {
     let count = part.byte()?;
     let mut names = Vec::new();
     for _ in 0..count {
@@ -193,7 +233,7 @@ fn parameters<'f>(part: &mut Part<'f>) -> Reading<Vec<Name<'f>>> {
 }
 
 /// Length; flag, what a stitch has too, stitches to the end.
-fn flow<'f>(part: &mut Part<'f>) -> Reading<Flow<'f>> {
+fn flow<'f>(part: &mut Part<'_, 'f>) -> Reading<Flow<'f>> {
     let place = part.at as u32;
     let mut inside = part.sized()?;
     let is_function = inside.flag()?;
@@ -208,7 +248,7 @@ fn flow<'f>(part: &mut Part<'f>) -> Reading<Flow<'f>> {
 }
 
 /// Length; name, parameters, divert parameters, node list.
-fn stitch<'f>(part: &mut Part<'f>) -> Reading<Body<'f>> {
+fn stitch<'f>(part: &mut Part<'_, 'f>) -> Reading<Body<'f>> {
     let mut inside = part.sized()?;
     let stitch = body(&mut inside)?;
     inside.ended()?;
@@ -216,7 +256,7 @@ fn stitch<'f>(part: &mut Part<'f>) -> Reading<Body<'f>> {
 }
 
 /// Name, parameters, divert parameters, node list.
-fn body<'f>(part: &mut Part<'f>) -> Reading<Body<'f>> {
+fn body<'f>(part: &mut Part<'_, 'f>) -> Reading<Body<'f>> {
     let name = name(part)?;
     let own = parameters(part)?;
     let marks = parameters(part)?;
@@ -230,34 +270,55 @@ fn body<'f>(part: &mut Part<'f>) -> Reading<Body<'f>> {
 }
 
 /// 32-bit byte length, then nodes.
-fn node_list<'f>(part: &mut Part<'f>, depth: u32) -> Reading<Vec<Node<'f>>> {
+fn node_list<'f>(part: &mut Part<'_, 'f>, depth: u32) -> Reading<Vec<Node<'f>>> {
     part.sized()?.until_end(|p| node(p, depth))
 }
 
-/// The header of a record: header fits, payload fits, kind, depth.
-fn header<'f>(part: &mut Part<'f>, last_kind: u8, depth: u32) -> Reading<(u8, Part<'f>)> {
+/// The largest kind that has a meaning.
+fn last_kind(class: Class) -> u8 {
+    match class {
+        Class::Node => 16,
+        Class::Expression => 6,
+        Class::Condition => 2,
+    }
+}
+
+/// The header of a record: header fits, payload fits, kind, depth. Then the record is met.
+fn header<'m, 'f>(
+    part: &mut Part<'m, 'f>,
+    class: Class,
+    depth: u32,
+) -> Reading<(u8, Part<'m, 'f>)> {
+    let place = part.at as u32;
     let kind = part.byte()?;
     let payload = part.sized()?;
-    if kind > last_kind {
+    if kind > last_kind(class) {
         return Err(5);
     }
     if depth > 64 {
         return Err(6);
     }
+    part.met.borrow_mut().push(Record {
+        place,
+        class,
+        kind,
+        depth,
+        first: payload.file[payload.at..payload.to].first().copied(),
+    });
     Ok((kind, payload))
 }
 
 /// A node record.
-fn node<'f>(part: &mut Part<'f>, depth: u32) -> Reading<Node<'f>> {
+fn node<'f>(part: &mut Part<'_, 'f>, depth: u32) -> Reading<Node<'f>> {
     let place = part.at as u32;
-    let (kind, mut payload) = header(part, 16, depth)?;
+    let (kind, mut payload) = header(part, Class::Node, depth)?;
     let what = node_payload(kind, &mut payload, depth + 1)?;
     payload.ended()?;
     Ok(Node { place, kind, what })
 }
 
 /// The payload of a node by its kind; records in it have the depth given.
-fn node_payload<'f>(kind: u8, part: &mut Part<'f>, depth: u32) -> Reading<What<'f>> {
+fn node_payload<'f>(kind: u8, part: &mut Part<'_, 'f>, depth: u32) -> Reading<What<'f>> {
     Ok(match kind {
         2 | 12 => What::Value(expression(part, depth)?),
         3 | 4 | 5 | 7 | 16 => What::Named(name(part)?, expressions(part, depth)?),
@@ -275,12 +336,12 @@ fn node_payload<'f>(kind: u8, part: &mut Part<'f>, depth: u32) -> Reading<What<'
 }
 
 /// Expressions to the end.
-fn expressions<'f>(part: &mut Part<'f>, depth: u32) -> Reading<Vec<Expression<'f>>> {
+fn expressions<'f>(part: &mut Part<'_, 'f>, depth: u32) -> Reading<Vec<Expression<'f>>> {
     part.until_end(|p| expression(p, depth))
 }
 
 /// Condition, list, flag, list if 1.
-fn conditional<'f>(part: &mut Part<'f>, depth: u32) -> Reading<What<'f>> {
+fn conditional<'f>(part: &mut Part<'_, 'f>, depth: u32) -> Reading<What<'f>> {
     let test = condition(part, depth)?;
     let mut lists = vec![node_list(part, depth)?];
     if part.flag()? {
@@ -290,7 +351,7 @@ fn conditional<'f>(part: &mut Part<'f>, depth: u32) -> Reading<What<'f>> {
 }
 
 /// Flag, expression if 1, list.
-fn branch<'f>(part: &mut Part<'f>, depth: u32) -> Reading<Branch<'f>> {
+fn branch<'f>(part: &mut Part<'_, 'f>, depth: u32) -> Reading<Branch<'f>> {
     let case = match part.flag()? {
         true => Some(expression(part, depth)?),
         false => None,
@@ -300,7 +361,7 @@ fn branch<'f>(part: &mut Part<'f>, depth: u32) -> Reading<Branch<'f>> {
 }
 
 /// Mode, name, expression.
-fn assignment<'f>(part: &mut Part<'f>, depth: u32) -> Reading<What<'f>> {
+fn assignment<'f>(part: &mut Part<'_, 'f>, depth: u32) -> Reading<What<'f>> {
     let mode = part.byte()?;
     if mode > 3 {
         return Err(5);
@@ -310,7 +371,7 @@ fn assignment<'f>(part: &mut Part<'f>, depth: u32) -> Reading<What<'f>> {
 }
 
 /// Flag, label name if 1, condition list, node list.
-fn choice<'f>(part: &mut Part<'f>, depth: u32) -> Reading<What<'f>> {
+fn choice<'f>(part: &mut Part<'_, 'f>, depth: u32) -> Reading<What<'f>> {
     let label = match part.flag()? {
         true => Some(name(part)?),
         false => None,
@@ -320,9 +381,9 @@ fn choice<'f>(part: &mut Part<'f>, depth: u32) -> Reading<What<'f>> {
 }
 
 /// An expression record.
-fn expression<'f>(part: &mut Part<'f>, depth: u32) -> Reading<Expression<'f>> {
+fn expression<'f>(part: &mut Part<'_, 'f>, depth: u32) -> Reading<Expression<'f>> {
     let place = part.at as u32;
-    let (kind, mut payload) = header(part, 6, depth)?;
+    let (kind, mut payload) = header(part, Class::Expression, depth)?;
     let own = match kind {
         1 | 2 | 5 => Some(name(&mut payload)?),
         _ => None,
@@ -347,9 +408,9 @@ fn expression<'f>(part: &mut Part<'f>, depth: u32) -> Reading<Expression<'f>> {
 }
 
 /// A condition record.
-fn condition<'f>(part: &mut Part<'f>, depth: u32) -> Reading<Condition<'f>> {
+fn condition<'f>(part: &mut Part<'_, 'f>, depth: u32) -> Reading<Condition<'f>> {
     let place = part.at as u32;
-    let (kind, mut payload) = header(part, 2, depth)?;
+    let (kind, mut payload) = header(part, Class::Condition, depth)?;
     let mut condition = Condition {
         place,
         name: None,

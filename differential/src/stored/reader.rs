@@ -1,23 +1,26 @@
-//! Files for the reading pass: refusals 1 to 6 at each kind of field, files cut short, and the limits.
+//! Files for the reading pass: refusals 1 to 6 at each kind of field, files cut short, the numbers kept, and the limits.
 
-use super::{Stored, short, whole};
+use super::{Stored, kept, short, whole};
 use crate::encode::encode;
 use crate::layout::{LONGEST_FILE, TRAILER, file, record};
 use crate::limits::{NESTINGS, nested, placed};
 use crate::second;
 use crate::vectors;
 
-/// The files with their lines, then the lines of the two longest files, which the program builds itself.
+/// What the lent numbers are before a file is read.
+const BLANK: u32 = 2_779_096_485;
+
+/// The files with their lines, then the lines of the longest files, which the program builds itself.
 pub fn stored() -> Stored {
     let mut input = Vec::new();
     let mut output = Vec::new();
     for file in files() {
         input.extend(short(file.len()));
         input.extend(&file);
-        output.extend(line(&file));
+        output.extend(lines(&file));
     }
-    for length in [LONGEST_FILE, LONGEST_FILE + 1] {
-        output.extend(line(&empty_globals(length)));
+    for file in longest() {
+        output.extend(lines(&file));
     }
     Stored {
         input,
@@ -33,20 +36,47 @@ pub fn files() -> Vec<Vec<u8>> {
     files.extend(deep());
     files.extend((0..=whole.len()).map(|length| whole[..length].to_vec()));
     files.extend(cut_sections(&whole));
+    files.extend(kept::files());
     files
 }
 
-/// What the program writes for a file.
-fn line(file: &[u8]) -> Vec<u8> {
-    match second::refusal(file) {
-        None => b"read\n".to_vec(),
-        Some(refusal) => format!("refused {refusal}\n").into_bytes(),
-    }
+/// What the program writes for a file: a line for each length of the lent numbers.
+fn lines(file: &[u8]) -> Vec<u8> {
+    let second::Kept {
+        refusal,
+        met,
+        numbers,
+    } = second::kept(file);
+    let answer = match refusal {
+        None => format!("read {} {met}", numbers.len()),
+        Some(refusal) => format!("refused {refusal}"),
+    };
+    let line = |lent| format!("{answer} {}\n", checksum(&filled(lent, &numbers)));
+    kept::LENT.map(line).concat().into_bytes()
 }
 
-/// A file of this length that has nothing but empty globals.
-fn empty_globals(length: usize) -> Vec<u8> {
-    file(&vec![0; length - TRAILER], &[], &[], &[])
+/// So many lent numbers once reading has put its own into them, as far as they reach.
+fn filled(lent: usize, numbers: &[u32]) -> Vec<u32> {
+    let rest = std::iter::repeat(&BLANK);
+    numbers.iter().chain(rest).take(lent).copied().collect()
+}
+
+/// Each number after 31 times those before it, in 32 bits.
+fn checksum(numbers: &[u32]) -> u32 {
+    let with_number = |sum: u32, number: &u32| sum.wrapping_mul(31).wrapping_add(*number);
+    numbers.iter().fold(0, with_number)
+}
+
+/// The longest file and one that is a byte longer, of nothing but empty globals; and the longest with a gather at its end.
+fn longest() -> [Vec<u8>; 3] {
+    let globals = |length: usize| vec![0; length];
+    let gather = record(15, &[0]);
+    let most = LONGEST_FILE - TRAILER;
+    [
+        file(&globals(most), &[], &[], &[]),
+        file(&globals(most + 1), &[], &[], &[]),
+        file(&globals(most - gather.len()), &[], &gather, &[]),
+    ]
 }
 
 /// The examples of the scope paper's table, refusals 1 to 6, and the shortest file that is read.

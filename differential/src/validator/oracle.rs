@@ -12,6 +12,11 @@ pub fn valid_targets(story: &ParsedStory) -> BTreeSet<String> {
     ValidationContext::build(story).valid_targets
 }
 
+/// What the original says of one divert target: its context is built, then the target checked.
+pub fn target(story: &ParsedStory, target: &str) -> Result<(), CompilerError> {
+    ValidationContext::build(story).check_target(target)
+}
+
 /// The text of the original's error for one divert target, or none when it passes.
 pub fn target_texts(story: &ParsedStory, targets: &[&str]) -> Vec<Option<String>> {
     let context = ValidationContext::build(story);

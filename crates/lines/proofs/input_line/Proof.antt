@@ -3,7 +3,7 @@ use mathlib.Core.Path.{refl}
 use native.Mathlib.Omega.{arith}
 use lib.Dec.{lit≤}
 use borrow.Author.Needs.{needs}
-use Rattle.records.specs.Window.{overlay}
+use Rattle.records.specs.Buffers.{overlay}
 use Rattle.lines.specs.Lines.{resultLine}
 use Rattle.lines.proofs.Reported.{long-out, long-input, short-input, wrote-within}
 use Rattle.lines.proofs.input_line.Statement.{statement}

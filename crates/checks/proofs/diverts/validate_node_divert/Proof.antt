@@ -6,10 +6,10 @@ use Rattle.checks.proofs.diverts.validate_node_divert.Statement.{statem
 use Rattle.checks.proofs.diverts.validate_node_divert.Tie as tie
 
 returns : tie.Need-returns
-returns c h before = rw (targets-judged _ h before _) (picked _ (c .before .before .before .has-target .ensures) (c .before .before .if1 .taken) (rw (c .before .item-name .ensures) at (c .check-target .ensures)))
+returns c h before = rw (targets-judged _ h before _) (picked _ (c .before .before .before .has-target .ensures _) (c .before .before .if1 .taken) (rw (c .before .item-name .ensures) at (c .check-target .ensures)))
 
 returns-2 : tie.Need-returns-2
-returns-2 c h before = rw (targets-judged _ h before _) (passed _ (c .before .has-target .ensures) (c .if1 .left) refl)
+returns-2 c h before = rw (targets-judged _ h before _) (passed _ (c .before .has-target .ensures _) (c .if1 .left) refl)
 
 pub validate-node-divert-spec : {M : Type 1} → statement M
 validate-node-divert-spec =

@@ -10,12 +10,11 @@ returns c = or-found _ (counted-answer _ (c .before .before .before .before .bef
 
 returns-2 : tie.Need-returns-2
 returns-2 c =
-    let at-if1 = c .before .before .before .before in
+    let at-if1 = c .before .before in
     let at-counted-has-name = at-if1 .before in
     let start = at-counted-has-name .before .before .before .before .before in
     let counted-has-name = at-counted-has-name .counted-has-name in
-    let if1 = at-if1 .if1 in
-    or-passed (counted-answer _ (start .args .name .now) _ (counted-has-name .ensures)) (if1 .left) (c .before .before .body-has-temp .ensures)
+    or-passed (counted-answer _ (start .args .name .now) _ (counted-has-name .ensures)) (at-if1 .if1 .left) (rw (c .before .body-items .ensures) at (c .has-temp .ensures))
 
 pub is-declared-spec : {M : Type 1} → statement M
 is-declared-spec =
@@ -27,5 +26,5 @@ is-declared-spec =
     (λ c κs. search needs)
     returns
     (λ c κs. search needs)
-    (λ c. search needs)
+    (λ c κs. search needs)
     returns-2)

@@ -6,22 +6,13 @@ use Rattle.checks.proofs.labels.is_forbidden.Tie as tie
 
 returns : tie.Need-returns
 unfolding hereAt
-returns c =
-    let at-if1 = c .before .before .before .before in
-    let at-is-declared = at-if1 .before .before .before in
-    rw (← at-is-declared .is-declared .ensures, at-if1 .if1 .taken, ← c .before .before .is-declared2 .ensures)
+returns c = rw (← c .before .before .is-declared .ensures, c .before .if1 .taken, ← c .is-declared2 .ensures)
 
 returns-2 : tie.Need-returns-2
 unfolding hereAt
-returns-2 c = rw (← c .before .before .before .is-declared .ensures, c .if1 .left)
+returns-2 c = rw (← c .before .is-declared .ensures, c .if1 .left)
 
 pub is-forbidden-spec : {M : Type 1} → statement M
 is-forbidden-spec =
     tie.close
-    (tie.spec
-    (λ c κs. search needs)
-    (λ c κs. search needs)
-    (λ c. search needs)
-    returns
-    (λ c. search needs)
-    returns-2)
+    (tie.spec (λ c κs. search needs) (λ c κs. search needs) returns returns-2)

@@ -1,5 +1,4 @@
--- `is_label`: a label of the body, or of a stitch. Assumes nothing.
-use Rattle.names.proofs.Bools.{or-found, or-passed}
+-- `is_label`: a label in the run of the knot and its stitches. Assumes nothing.
 use Rattle.checks.specs.Context.{hereAt}
 use borrow.Author.Needs.{needs}
 use Rattle.checks.proofs.labels.is_label.Statement.{statement}
@@ -7,22 +6,8 @@ use Rattle.checks.proofs.labels.is_label.Tie as tie
 
 returns : tie.Need-returns
 unfolding hereAt
-returns c = or-found _ (c .before .before .before .body-has-label .ensures) (c .if1 .taken)
-
-returns-2 : tie.Need-returns-2
-unfolding hereAt
-returns-2 c =
-    let at-if1 = c .before .before .before .before in
-    let at-body-has-label = at-if1 .before .before .before in
-    or-passed (at-body-has-label .body-has-label .ensures) (at-if1 .if1 .left) (c .before .before .is-stitch-label .ensures)
+returns c = rw (c .before .body-items .ensures) at (c .has-label .ensures)
 
 pub is-label-spec : {M : Type 1} → statement M
 is-label-spec =
-    tie.close
-    (tie.spec
-    (λ c κs. search needs)
-    (λ c. search needs)
-    returns
-    (λ c κs. search needs)
-    (λ c. search needs)
-    returns-2)
+    tie.close (tie.spec (λ c κs. search needs) (λ c κs. search needs) returns)

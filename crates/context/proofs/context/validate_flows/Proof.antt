@@ -1,31 +1,30 @@
--- `validate_flows`. The loop's invariant: nothing is found before the flows from the place on, which can be read. Assumes nothing.
+-- `validate_flows`. The loop's invariant: nothing is found before the flows from the place on, which can be read and are kept. Assumes nothing.
 use mathlib.Core.Path.{_≡_, refl, _∙_}
 use Prim.Native.Nat.{_-_}
 use native.Mathlib.Omega.{arith}
-use lib.ListN.{length-take}
-use lib.ListN.{length}
+use lib.ListN.{length, length-take}
 use Rattle.names.specs.Words.{each}
-use Rattle.story.specs.Flows.{flowsIn, part}
+use Rattle.story.specs.Plain.{withoutPlain}
 use Rattle.story.specs.File.{storyIn}
-use Rattle.searches.proofs.Viewed.{flow-viewed}
+use Rattle.items.specs.Bodies.{keptStory}
 use Rattle.rules.specs.Steps.{flowRuns}
 use Rattle.context.specs.Found.{foundRuns}
-use Rattle.context.specs.Scopes.{FlowsReady}
-use Rattle.context.proofs.Places.{flows-none, flow-seen-ready, flows-after, flows-fewer}
+use Rattle.context.specs.Scopes.{keptFlows, FlowsReady}
+use Rattle.context.proofs.Places.{flows-none, flows-first, flow-seen-ready, flows-after, flows-fewer}
 use Rattle.context.proofs.Runs.{each-none, each-found, each-passed}
 use borrow.Author.Needs.{needs}
 use Rattle.context.proofs.context.validate_flows.Statement.{statement}
 use Rattle.context.proofs.context.validate_flows.Tie as tie
 
 abbrev Inv-loop : tie.InvT-loop
-Inv-loop file c index count functions hints declared₀ gathers₀ batch₀ scratch₀ end at₀ declared gathers batch scratch at = ((length batch ≡ length batch₀) × (length scratch ≡ length scratch₀) × (length declared ≡ length declared₀) × (length gathers ≡ length gathers₀)) × FlowsReady file at (c .end) × (foundRuns (storyIn c file) (each flowRuns (storyIn c file .flows)) ≡ foundRuns (storyIn c file) (each flowRuns (flowsIn at (part at (c .end) file))))
+Inv-loop file c kept index count functions hints declared₀ gathers₀ end at₀ declared gathers at = ((length declared ≡ length declared₀) × (length gathers ≡ length gathers₀)) × FlowsReady file kept at (c .end) × (foundRuns (keptStory c file) (each flowRuns (keptStory c file .flows)) ≡ foundRuns (keptStory c file) (each flowRuns (keptFlows file at (c .end))))
 
 abbrev μ-loop : tie.MeasureT-loop
-μ-loop file c index count functions hints declared₀ gathers₀ batch₀ scratch₀ end at₀ declared gathers batch scratch at = c .end - at
+μ-loop file c kept index count functions hints declared₀ gathers₀ end at₀ declared gathers at = c .end - at
 
 loop-holds : tie.Need-loop-holds Inv-loop μ-loop
-unfolding storyIn
-loop-holds c = ((refl, refl, refl, refl), c .before .before .before .before .before .before .before .before .pre .1 .0, refl)
+unfolding withoutPlain storyIn
+loop-holds c = ((refl, refl), c .before .before .before .before .before .before .before .pre .1, refl)
 
 flow-view-requires : tie.Need-flow-view-requires Inv-loop μ-loop
 flow-view-requires c κs = (c .loop .inv .1 .ordered, c .loop .inv .1 .within)
@@ -37,43 +36,58 @@ same-length-2 : tie.Need-same-length-2 Inv-loop μ-loop
 same-length-2 c = omega (arith, c .before .before .before .loop .inv .0)
 
 returns : tie.Need-returns Inv-loop μ-loop
-returns c = rw (c .before .before .before .loop .inv .2) (each-none _ _ (flows-none _ _ _ (c .before .before .before .loop .inv .1) (c .before .before .flow-view .ensures) (c .enum-told .given .1)))
-
-validate-whole-flow-requires : tie.Need-validate-whole-flow-requires Inv-loop μ-loop
-validate-whole-flow-requires c κs = (c .before .before .before .before .before .before .before .before .before .before .before .before .before .before .before .before .before .before .pre .0, (flow-seen-ready _ _ _ (c .before .before .before .before .before .before .before .before .before .loop .inv .1) (c .before .before .before .before .before .before .before .before .flow-view .ensures) _ (c .before .before .before .before .before .before .v .given .1), omega (arith, c .before .before .before .before .before .before .before .before .before .loop .inv .0, c .before .before .before .before .before .before .before .before .before .before .before .before .before .before .before .before .before .before .pre .1 .1)))
-
-same-length-3 : tie.Need-same-length-3 Inv-loop μ-loop
-same-length-3 c = omega (arith, c .before .before .before .loop .inv .0)
-
-same-length-4 : tie.Need-same-length-4 Inv-loop μ-loop
-same-length-4 c = omega (arith, c .before .before .before .loop .inv .0)
-
-returns-2 : tie.Need-returns-2 Inv-loop μ-loop
-returns-2 c = rw (c .before .before .before .before .before .before .before .before .before .before .before .before .before .before .before .before .before .before .before .before .loop .inv .2) (each-found _ _ (flow-viewed _ _ _ _ (c .before .before .before .before .before .before .before .before .before .before .before .before .before .before .before .before .before .before .before .flow-view .ensures) (c .before .before .before .before .before .before .before .before .before .before .before .before .before .before .before .before .before .v .given .1)) (c .before .before .before .before .before .before .before .before .before .before .validate-whole-flow .ensures) (c .enum-told2 .given .1))
-
-loop-less : tie.Need-loop-less Inv-loop μ-loop
-loop-less c = flows-fewer _ _ _ (c .before .before .before .before .before .before .before .before .before .before .before .before .before .before .before .before .before .before .before .before .loop .inv .1) (c .before .before .before .before .before .before .before .before .before .before .before .before .before .before .before .before .before .before .before .flow-view .ensures) _ (c .before .before .before .before .before .before .before .before .before .before .before .before .before .before .before .before .before .v .given .1)
-
-loop-again : tie.Need-loop-again Inv-loop μ-loop
-loop-again c = (omega (arith, c .before .before .before .before .before .before .before .before .before .before .before .before .before .before .before .before .before .before .before .before .loop .inv .0), flows-after _ _ _ (c .before .before .before .before .before .before .before .before .before .before .before .before .before .before .before .before .before .before .before .before .loop .inv .1) (c .before .before .before .before .before .before .before .before .before .before .before .before .before .before .before .before .before .before .before .flow-view .ensures) _ (c .before .before .before .before .before .before .before .before .before .before .before .before .before .before .before .before .before .v .given .1), c .before .before .before .before .before .before .before .before .before .before .before .before .before .before .before .before .before .before .before .before .loop .inv .2 ∙ each-passed _ _ (flow-viewed _ _ _ _ (c .before .before .before .before .before .before .before .before .before .before .before .before .before .before .before .before .before .before .before .flow-view .ensures) (c .before .before .before .before .before .before .before .before .before .before .before .before .before .before .before .before .before .v .given .1)) (c .before .before .before .before .before .before .before .before .before .before .validate-whole-flow .ensures) (c .enum-told3 .given .1))
-
-same-length-5 : tie.Need-same-length-5 Inv-loop μ-loop
-same-length-5 c = omega (arith, c .before .before .before .before .before .before .before .before .before .before .before .before .before .before .before .before .before .before .before .before .loop .inv .0)
-
-same-length-6 : tie.Need-same-length-6 Inv-loop μ-loop
-same-length-6 c = omega (arith, c .before .before .before .before .before .before .before .before .before .before .before .before .before .before .before .before .before .before .before .before .loop .inv .0)
-
-same-length-7 : tie.Need-same-length-7 Inv-loop μ-loop
-same-length-7 c = omega (arith, c .before .before .before .before .before .before .before .before .before .before .before .before .before .before .before .before .before .before .before .before .loop .inv .0)
-
-same-length-8 : tie.Need-same-length-8 Inv-loop μ-loop
-same-length-8 c = omega (arith, c .before .before .before .before .before .before .before .before .before .before .before .before .before .before .before .before .before .before .before .before .loop .inv .0)
+returns c =
+    let inv = c .before .before .before .loop .inv in
+    rw (inv .2) (each-none _ _ (flows-none _ _ _ _ (inv .1) (c .before .before .flow-view .ensures) (c .enum-told .given .1)))
 
 declared-room-requires : tie.Need-declared-room-requires Inv-loop μ-loop
-declared-room-requires c κs = let ready = flow-seen-ready _ _ _ (c .before .before .before .before .loop .inv .1) (c .before .before .before .flow-view .ensures) _ (c .before .v .given .1) in omega (arith, ready .body .ordered, ready .joined, ready .stitches .ordered)
+declared-room-requires c κs =
+    let view = c .before .before .before in
+    let ready = flow-seen-ready _ _ _ _ (view .before .loop .inv .1) (view .flow-view .ensures) _ (c .before .v .given .1) in
+    omega (arith, ready .ordered, ready .joined, ready .stitches .ordered)
 
 slice-aggregate-validate-whole-flow : tie.Need-slice-aggregate-validate-whole-flow Inv-loop μ-loop
-slice-aggregate-validate-whole-flow c = omega (arith, length-take (c .before .declared-room .result) (c .before .before .before .before .before .before .loop .declared), c .before .declared-room .ensures)
+slice-aggregate-validate-whole-flow c =
+    let room = c .before in
+    omega (arith, length-take (room .declared-room .result) (c .before .before .before .before .before .before .loop .declared), room .declared-room .ensures)
+
+validate-whole-flow-requires : tie.Need-validate-whole-flow-requires Inv-loop μ-loop
+validate-whole-flow-requires c κs =
+    let seen = c .before .before .before .before in
+    let view = seen .before .before in
+    (c .before .before .before .before .before .before .before .before .before .before .before .before .before .before .before .pre .0, flow-seen-ready _ _ _ _ (view .before .loop .inv .1) (view .flow-view .ensures) _ (seen .v .given .1))
+
+same-length-3 : tie.Need-same-length-3 Inv-loop μ-loop
+same-length-3 c =
+    omega (arith, c .before .before .before .before .before .before .before .before .before .before .before .before .before .before .loop .inv .0)
+
+same-length-4 : tie.Need-same-length-4 Inv-loop μ-loop
+same-length-4 c =
+    omega (arith, c .before .before .before .before .before .before .before .before .before .before .before .before .before .before .loop .inv .0)
+
+returns-2 : tie.Need-returns-2 Inv-loop μ-loop
+returns-2 c =
+    let seen = c .before .before .before .before .before .before .before .before .before .before .before in
+    let view = seen .before .before in
+    let inv = view .before .loop .inv in
+    let first = flows-first _ _ _ _ (inv .1) (view .flow-view .ensures) _ (seen .v .given .1) in
+    rw (inv .2) (each-found _ _ first (c .before .before .before .before .before .before .validate-whole-flow .ensures) (c .enum-told2 .given .1))
+
+loop-less : tie.Need-loop-less Inv-loop μ-loop
+loop-less c =
+    let seen = c .before .before .before .before .before .before .before .before .before .before .before in
+    let view = seen .before .before in
+    flows-fewer _ _ _ _ (view .before .loop .inv .1) (view .flow-view .ensures) _ (seen .v .given .1)
+
+loop-again : tie.Need-loop-again Inv-loop μ-loop
+loop-again c =
+    let seen = c .before .before .before .before .before .before .before .before .before .before .before in
+    let view = seen .before .before in
+    let inv = view .before .loop .inv in
+    let told = view .flow-view .ensures in
+    let there = seen .v .given .1 in
+    let first = flows-first _ _ _ _ (inv .1) told _ there in
+    (omega (arith, inv .0), flows-after _ _ _ _ (inv .1) told _ there, inv .2 ∙ each-passed _ _ first (c .before .before .before .before .before .before .validate-whole-flow .ensures) (c .enum-told3 .given .1))
 
 pub validate-flows-spec : {M : Type 1} → statement M
 validate-flows-spec =
@@ -87,18 +101,14 @@ validate-flows-spec =
     (λ c. search needs)
     same-length
     same-length-2
-    same-length-3
-    same-length-4
     returns
     declared-room-requires
     (λ c. search needs)
     slice-aggregate-validate-whole-flow
     validate-whole-flow-requires
     (λ c. search needs)
-    same-length-5
-    same-length-6
-    same-length-7
-    same-length-8
+    same-length-3
+    same-length-4
     returns-2
     (λ c. search needs)
     loop-less

@@ -7,7 +7,7 @@ use Rattle.context.proofs.passes.is_clear.Tie as tie
 
 slice-aggregate-is-body-clear : tie.Need-slice-aggregate-is-body-clear
 slice-aggregate-is-body-clear c =
-    let start = c .before .before .before .before .before .before .before .before .before .before in
+    let start = c .before .before .before .before .before .before .before .before .before in
     let room = c .before .filter-room in
     omega (arith, length-take (room .result) (start .args .gathers .now), room .ensures)
 
@@ -19,7 +19,5 @@ is-clear-spec =
     (λ c. search needs)
     slice-aggregate-is-body-clear
     (λ c κs. search needs)
-    (λ c. search needs)
-    (λ c. search needs)
     (λ c. search needs)
     (λ c. search needs))

@@ -4,7 +4,7 @@ use Rattle.context.proofs.passes.judge_item.Statement.{statement}
 use Rattle.context.proofs.passes.judge_item.Tie as tie
 
 returns-2 : tie.Need-returns-2
-returns-2 c = c .before .is-concerned .ensures (c .if1 .left) _ _ _
+returns-2 c = c .before .is-concerned .ensures (c .if1 .left) _ _ _ _
 
 pub judge-item-spec : {M : Type 1} → statement M
 judge-item-spec =
@@ -12,6 +12,5 @@ judge-item-spec =
     (tie.spec
     (λ c κs. search needs)
     (λ c κs. search needs)
-    (λ c. search needs)
     (λ c. search needs)
     returns-2)

@@ -14,7 +14,7 @@ slice-aggregate-lacks-word c =
 returns : tie.Need-returns
 returns c =
     let start = c .before .before .before .before .before .before .before .before in
-    not-forbidden (start .args .scope) (start .pre .1 .0) _ (c .before .before .before .split-at .ensures .0) (c .before .lacks-word .ensures) (c .if1 .taken)
+    not-forbidden (start .args .scope) (start .pre .1) _ (c .before .before .before .split-at .ensures .0) (c .before .lacks-word .ensures) (c .if1 .taken)
 
 pub is-forbidden-in-spec : {M : Type 1} → statement M
 is-forbidden-in-spec =
@@ -25,5 +25,4 @@ is-forbidden-in-spec =
     (λ c κs. search needs)
     returns
     (λ c κs. search needs)
-    (λ c. search needs)
     (λ c. search needs))

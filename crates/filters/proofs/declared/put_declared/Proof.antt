@@ -14,19 +14,13 @@ slice-aggregate-put-names c =
 returns : tie.Need-returns
 returns c = declared-none _ (c .if1 .taken)
 
-put-labels-requires : tie.Need-put-labels-requires
-put-labels-requires c κs =
-    let start = c .before .before .before .before .before .before .before .before .before .before .before .before .before .before in
-    (start .pre .1 .0, (start .pre .1 .1 .0, omega (arith, start .pre .1 .1 .1, c .before .before .before .scratch .given)))
-
 returns-2 : tie.Need-returns-2
 returns-2 c =
-    let at-put-labels = c .before .before .before .before in
-    let at-filter = at-put-labels .before .before .before .before .before .before in
+    let at-filter = c .before .before .before .before .before in
     let at-put-names = at-filter .before in
-    let at-split-at = at-put-names .before .before .before in
+    let at-split-at = at-put-names .before .before in
     let start = at-split-at .before .before .before .before .before in
-    declared-put (start .args .filter .now) _ _ (omega (arith, at-filter .filter .given, length-take (at-split-at .split-at .result) (start .args .filter .now), at-split-at .split-at .ensures .1)) (omega (arith, c .before .before .before .filter2 .given)) (at-split-at .split-at .ensures .1) (at-split-at .split-at .ensures .0) (at-put-names .put-names .ensures) (at-put-labels .put-labels .ensures)
+    declared-put (start .args .filter .now) _ _ (omega (arith, at-filter .filter .given, length-take (at-split-at .split-at .result) (start .args .filter .now), at-split-at .split-at .ensures .1)) (omega (arith, c .before .filter2 .given)) (at-split-at .split-at .ensures .1) (at-split-at .split-at .ensures .0) (at-put-names .put-names .ensures) (c .before .before .put-labels .ensures)
 
 pub put-declared-spec : {M : Type 1} → statement M
 put-declared-spec =
@@ -40,7 +34,6 @@ put-declared-spec =
     (λ c. search needs)
     (λ c. search needs)
     (λ c. search needs)
-    put-labels-requires
-    (λ c. search needs)
+    (λ c κs. search needs)
     (λ c. search needs)
     returns-2)

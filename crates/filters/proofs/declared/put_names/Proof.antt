@@ -1,5 +1,4 @@
 -- `put_names`: the parameters are added, and then the temps; a filter without slots lacks nothing. Assumes nothing.
-use native.Mathlib.Omega.{arith}
 use Rattle.filters.proofs.Covering.{covers-none}
 use Rattle.filters.proofs.Bodies.{names-put}
 use borrow.Author.Needs.{needs}
@@ -11,9 +10,8 @@ returns c = covers-none _ (c .if1 .taken) _
 
 returns-2 : tie.Need-returns-2
 returns-2 c =
-    let at-add-temps = c .before .before .before .before in
-    let at-add-counted = at-add-temps .before .before .before .before .before in
-    names-put _ _ _ _ _ (at-add-counted .add-counted .ensures) (at-add-temps .add-temps .ensures)
+    let at-add-counted = c .before .before .before .before .before .before .before in
+    names-put _ _ _ _ (c .before .before .before .body-items .ensures) _ _ (at-add-counted .add-counted .ensures) (c .before .before .add-temps .ensures)
 
 pub put-names-spec : {M : Type 1} → statement M
 put-names-spec =
@@ -26,6 +24,6 @@ put-names-spec =
     (λ c. search needs)
     (λ c κs. search needs)
     (λ c κs. search needs)
-    (λ c. search needs)
+    (λ c κs. search needs)
     (λ c. search needs)
     returns-2)

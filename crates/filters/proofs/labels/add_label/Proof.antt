@@ -7,12 +7,11 @@ use Rattle.filters.proofs.labels.add_label.Tie as tie
 returns : tie.Need-returns
 returns c =
     let at-if1 = c .before .before .before .before .before in
-    let back-6 = at-if1 .before in
-    let at-is-labelled = back-6 in
-    label-added _ _ (at-is-labelled .is-labelled .ensures) (at-if1 .if1 .taken) (c .before .before .before .item-name .ensures) (c .before .before .add-word .ensures)
+    let at-is-labelled = at-if1 .before in
+    label-added _ _ (at-is-labelled .is-labelled .ensures _) (at-if1 .if1 .taken) (c .before .before .before .item-name .ensures) (c .before .before .add-word .ensures)
 
 returns-2 : tie.Need-returns-2
-returns-2 c = label-passed _ _ (c .before .is-labelled .ensures) (c .if1 .left)
+returns-2 c = label-passed _ _ (c .before .is-labelled .ensures _) (c .if1 .left)
 
 pub add-label-spec : {M : Type 1} → statement M
 add-label-spec =

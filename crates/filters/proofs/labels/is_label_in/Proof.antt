@@ -7,7 +7,7 @@ use Rattle.filters.proofs.labels.is_label_in.Tie as tie
 returns : tie.Need-returns
 returns c =
     let start = c .before .before .before .before .before .before .before .before in
-    not-label (start .args .scope) (start .pre .1 .0) _ (c .before .before .before .split-at .ensures .0) (c .before .lacks-word .ensures) (c .if1 .taken)
+    not-label (start .args .scope) (start .pre .1) _ (c .before .before .before .split-at .ensures .0) (c .before .lacks-word .ensures) (c .if1 .taken)
 
 pub is-label-in-spec : {M : Type 1} → statement M
 is-label-in-spec =
@@ -20,5 +20,4 @@ is-label-in-spec =
     (λ c κs. search needs)
     returns
     (λ c κs. search needs)
-    (λ c. search needs)
     (λ c. search needs))

@@ -2,7 +2,6 @@
 use native.Mathlib.Omega.{arith}
 use borrow.Author.Tests.{eq-eqb, ne-eqb}
 use Rattle.filters.specs.Names.{splitAt}
-use borrow.Author.Needs.{needs}
 use Rattle.filters.proofs.labels.split_at.Statement.{statement}
 use Rattle.filters.proofs.labels.split_at.Tie as tie
 

@@ -4,7 +4,7 @@ use native.Mathlib.Omega.{arith}
 use lib.ListN.{length}
 use Rattle.fields.proofs.Laws.{name-fits}
 use Rattle.records.specs.Grammar.{ending}
-use Rattle.records.specs.Work.{st, noting}
+use Rattle.records.specs.Work.{st, keeping}
 use Rattle.records.proofs.Walking.{named-refused, named-on, told-end}
 use borrow.Author.Needs.{needs}
 use Rattle.records.proofs.walker.single.Statement.{statement}
@@ -43,15 +43,15 @@ returns : tie.Need-returns
 returns c =
     let start = c .before .before .before .before .before .before in
     let a = start .args in
-    named-refused (noting (a .skip)) (a .base) (st (a .out .now) (a .n)) ending (a .s .now) (c .before .answer .given .0 .0) (c .before .before .before .read-name .ensures) (c .before .answer .given .1)
+    named-refused keeping (a .base) (st (a .out .now) (a .n)) ending (a .s .now) (c .before .answer .given .0 .0) (c .before .before .before .read-name .ensures) (c .before .answer .given .1)
 
 returns-2 : tie.Need-returns-2
 returns-2 c =
     let at-read-name = c .before .before .before .before .before in
     let start = at-read-name .before .before .before in
     let a = start .args in
-    rw (named-on (noting (a .skip)) (a .base) (st (a .out .now) (a .n)) ending (a .s .now) (c .before .before .before .answer2 .given .0 .0) (at-read-name .read-name .ensures) (c .before .before .before .answer2 .given .1))
-    (told-end (noting (a .skip)) _ _ _ (c .at-end .ensures))
+    rw (named-on keeping (a .base) (st (a .out .now) (a .n)) ending (a .s .now) (c .before .before .before .answer2 .given .0 .0) (at-read-name .read-name .ensures) (c .before .before .before .answer2 .given .1))
+    (told-end keeping _ _ _ (c .at-end .ensures))
 
 pub single-spec : {M : Type 1} → statement M
 single-spec =

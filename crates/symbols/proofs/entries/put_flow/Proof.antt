@@ -1,6 +1,7 @@
 -- `symbols::entries::put_flow` meets its contract: its parts are stored in order. Assumes nothing.
-use native.Mathlib.Omega.{arith}
-use Rattle.searches.specs.Views.{viewedFlow}
+use mathlib.Core.Path.{ap}
+use Rattle.items.specs.Bodies.{itemsAt, keptFlow}
+use Rattle.symbols.proofs.Labels.{labels-same}
 use Rattle.symbols.proofs.Placed.{flow-stored}
 use borrow.Author.Needs.{needs}
 use Rattle.symbols.proofs.entries.put_flow.Statement.{statement}
@@ -18,34 +19,31 @@ put-params-requires c κs = search needs
 prefix-number-requires : tie.Need-prefix-number-requires
 prefix-number-requires c κs = search needs
 
+body-items-requires : tie.Need-body-items-requires
+body-items-requires c κs = search needs
+
 collect-labels-from-nodes-requires : tie.Need-collect-labels-from-nodes-requires
 collect-labels-from-nodes-requires c κs = search needs
 
 put-stitches-requires : tie.Need-put-stitches-requires
-put-stitches-requires c κs =
-    let start = c .before .before .before .before .before .before .before .before .before .before .before .before .before .before .before .before .before .before .before .before .before .before in
-    (start .pre .0 .3, (start .pre .1 .0, omega (arith, start .pre .1 .1)))
+put-stitches-requires c κs = search needs
 
 same-length : tie.Need-same-length
 same-length c = search needs
 
-same-length-2 : tie.Need-same-length-2
-same-length-2 c = search needs
-
 returns : tie.Need-returns
 returns c =
-    let at-put-stitches = c .before .before .before .before in
-    let at-collect-labels-from-nodes = at-put-stitches .before .before .before .before .before .before .before in
-    let at-prefix-number = at-collect-labels-from-nodes .before .before .before in
+    let at-put-stitches = c .before .before in
+    let at-collect-labels-from-nodes = at-put-stitches .before .before .before .before in
+    let at-body-items = at-collect-labels-from-nodes .before .before in
+    let at-prefix-number = at-body-items .before in
     let at-put-params = at-prefix-number .before .before .before in
     let at-put-entry = at-put-params .before .before .before .before in
     let start = at-put-entry .before .before .before .before .before .before in
-    let put-entry = at-put-entry .put-entry in
-    let put-params = at-put-params .put-params in
-    let prefix-number = at-prefix-number .prefix-number in
-    let collect-labels-from-nodes = at-collect-labels-from-nodes .collect-labels-from-nodes in
-    let put-stitches = at-put-stitches .put-stitches in
-    flow-stored _ (viewedFlow (start .args .file .now) (start .args .v)) (put-entry .ensures) (put-params .ensures) (prefix-number .ensures) (collect-labels-from-nodes .ensures) (put-stitches .ensures)
+    let file = start .args .file .now in
+    flow-stored _ (keptFlow file (start .args .kept .now) (start .args .v)) (at-put-entry .put-entry .ensures) (at-put-params .put-params .ensures) (at-prefix-number .prefix-number .ensures)
+    (labels-same _ _ _ (ap (itemsAt file) (at-body-items .body-items .ensures)) (at-collect-labels-from-nodes .collect-labels-from-nodes .ensures file))
+    (at-put-stitches .put-stitches .ensures)
 
 pub put-flow-spec : {M : Type 1} → statement M
 put-flow-spec =
@@ -55,8 +53,8 @@ put-flow-spec =
     put-entry-requires
     put-params-requires
     prefix-number-requires
+    body-items-requires
     collect-labels-from-nodes-requires
     put-stitches-requires
     same-length
-    same-length-2
     returns)

@@ -1,14 +1,18 @@
 -- `symbols::entries::put_flows` meets its contract. The loop's invariant: what is left to be stored are the flows from `at` on,
--- and they can be read. Assumes nothing.
-use mathlib.Core.Path.{_≡_, refl}
+-- they can be read, and their items are kept. Assumes nothing.
+use mathlib.Core.Path.{_≡_, ap, refl}
+use mathlib.Core.List.{map}
 use Prim.Native.Nat.{_≤_, _-_}
 use native.Mathlib.Omega.{arith}
 use lib.ListN.{length}
 use Rattle.names.specs.Words.{each}
 use Rattle.records.specs.Trace.{well, ends}
+use Rattle.story.specs.Plain.{flowWithoutPlain}
 use Rattle.story.specs.Flows.{part, flows, flowsIn}
-use Rattle.searches.proofs.Viewed.{flow-viewed, flow-laid}
+use Rattle.searches.proofs.Viewed.{flow-laid}
 use Rattle.searches.proofs.Readable.{no-flow, flow-readable}
+use Rattle.items.specs.Bodies.{FlowsKept}
+use Rattle.items.proofs.Kept.{flow-stitches, flow-rest, flows-plain}
 use Rattle.symbols.specs.Index.{flowEntries}
 use Rattle.symbols.specs.Placed.{placed}
 use Rattle.symbols.proofs.Stored.{Storing, storing-start, storing-end, storing-many}
@@ -18,16 +22,16 @@ use Rattle.symbols.proofs.entries.put_flows.Statement.{statement}
 use Rattle.symbols.proofs.entries.put_flows.Tie as tie
 
 abbrev Inv-loop : tie.InvT-loop
-Inv-loop file from end index₀ n batch₀ at₀ count₀ index batch at count =
-    ((at ≤ end) × (length index ≡ length index₀) × (length batch ≡ length batch₀))
-    × (ends (flows (part at end file)) ≡ well)
-    × Storing index₀ n (placed (each flowEntries (flowsIn from (part from end file)))) index count (placed (each flowEntries (flowsIn at (part at end file))))
+Inv-loop file kept from end index₀ n at₀ count₀ index at count =
+    ((at ≤ end) × (length index ≡ length index₀))
+    × ((ends (flows (part at end file)) ≡ well) × FlowsKept file kept at end)
+    × Storing index₀ n (placed (each flowEntries (map flowWithoutPlain (flowsIn from (part from end file))))) index count (placed (each flowEntries (map flowWithoutPlain (flowsIn at (part at end file)))))
 
 abbrev μ-loop : tie.MeasureT-loop
-μ-loop file from end index₀ n batch₀ at₀ count₀ index batch at count = end - at
+μ-loop file kept from end index₀ n at₀ count₀ index at count = end - at
 
 loop-holds : tie.Need-loop-holds Inv-loop μ-loop
-loop-holds c = ((c .before .before .before .pre .0 .ordered, refl, refl), c .before .before .before .pre .1 .0, storing-start)
+loop-holds c = let start = c .before .before .before in ((start .pre .0 .ordered, refl), start .pre .1, storing-start)
 
 flow-view-requires : tie.Need-flow-view-requires Inv-loop μ-loop
 flow-view-requires c κs = (c .loop .inv .0 .0, c .before .before .before .before .pre .0 .within)
@@ -41,36 +45,33 @@ enum-told c = search needs
 same-length : tie.Need-same-length Inv-loop μ-loop
 same-length c = search needs
 
-same-length-2 : tie.Need-same-length-2 Inv-loop μ-loop
-same-length-2 c = search needs
-
 returns : tie.Need-returns Inv-loop μ-loop
 returns c =
-    let start = c .before .before .before .before .before .before .before in
-    let loop = c .before .before .before .loop in
-    storing-end (loop .inv .2) (flows-none (no-flow (start .args .file .now) (loop .at) (start .args .end) (loop .inv .1) (c .before .before .flow-view .ensures) (c .enum-told .given .1)))
+    let at-loop = c .before .before .before in
+    let start = at-loop .before .before .before .before in
+    let loop = at-loop .loop in
+    storing-end (loop .inv .2) (flows-none (ap (map flowWithoutPlain) (no-flow (start .args .file .now) (loop .at) (start .args .end) (loop .inv .1 .0) (c .before .before .flow-view .ensures) (c .enum-told .given .1))))
 
 put-flow-requires : tie.Need-put-flow-requires Inv-loop μ-loop
 put-flow-requires c κs =
-    let at-flow-view = c .before .before .before .before .before in
+    let at-v = c .before .before in
+    let at-flow-view = at-v .before .before in
     let at-loop = at-flow-view .before in
     let start = at-loop .before .before .before .before in
     let loop = at-loop .loop in
     let flow-view = at-flow-view .flow-view in
-    let v = c .before .before .before .v in
+    let v = at-v .v in
     let l = flow-laid (start .args .file .now) (loop .at) (start .args .end) (v .given .0 .0) (flow-view .ensures) (v .given .1) in (
+      (l .name, omega (arith, start .pre .0 .within), record { ordered = l .stitches; within = omega (arith, start .pre .0 .within); short = start .pre .0 .short }),
       (
-        l .name,
-        omega arith,
-        record { ordered = l .from; within = omega (arith, start .pre .0 .within); short = start .pre .0 .short },
-        record { ordered = l .stitches; within = omega (arith, start .pre .0 .within); short = start .pre .0 .short },
+        flow-readable (start .args .file .now) (loop .at) (start .args .end) (loop .inv .1 .0) (flow-view .ensures) (v .given .0 .0) (v .given .1) .own,
+        flow-stitches (start .args .file .now) (start .args .kept .now) (loop .at) (start .args .end) (loop .inv .0 .0) (start .pre .0 .within) (start .pre .0 .short) (loop .inv .1 .0) (loop .inv .1 .1) (v .given .0 .0) (flow-view .ensures) (v .given .1),
       ),
-      (flow-readable (start .args .file .now) (loop .at) (start .args .end) (loop .inv .1) (flow-view .ensures) (v .given .0 .0) (v .given .1) .own, omega (arith, loop .inv .0, start .pre .1 .1)),
     )
 
 loop-less : tie.Need-loop-less Inv-loop μ-loop
 loop-less c =
-    let at-v = c .before .before .before .before .before .before .before .before in
+    let at-v = c .before .before .before .before .before in
     let at-flow-view = at-v .before .before in
     let at-loop = at-flow-view .before in
     let start = at-loop .before .before .before .before in
@@ -81,21 +82,23 @@ loop-less c =
 
 loop-again : tie.Need-loop-again Inv-loop μ-loop
 loop-again c =
-    let at-put-flow = c .before .before .before .before in
-    let at-v = at-put-flow .before .before .before .before in
+    let at-put-flow = c .before .before in
+    let at-v = at-put-flow .before .before .before in
     let at-flow-view = at-v .before .before in
     let at-loop = at-flow-view .before in
     let start = at-loop .before .before .before .before in
     let loop = at-loop .loop in
     let flow-view = at-flow-view .flow-view in
     let v = at-v .v in
-    let put-flow = at-put-flow .put-flow in
     let l = flow-laid (start .args .file .now) (loop .at) (start .args .end) (v .given .0 .0) (flow-view .ensures) (v .given .1) in (
       omega (arith, loop .inv .0),
-      flow-readable (start .args .file .now) (loop .at) (start .args .end) (loop .inv .1) (flow-view .ensures) (v .given .0 .0) (v .given .1) .rest,
+      (
+        flow-readable (start .args .file .now) (loop .at) (start .args .end) (loop .inv .1 .0) (flow-view .ensures) (v .given .0 .0) (v .given .1) .rest,
+        flow-rest (start .args .file .now) (start .args .kept .now) (loop .at) (start .args .end) (loop .inv .0 .0) (start .pre .0 .within) (start .pre .0 .short) (loop .inv .1 .0) (loop .inv .1 .1) (v .given .0 .0) (flow-view .ensures) (v .given .1),
+      ),
       storing-many (loop .inv .2) _
-          (flows-next (flow-viewed (start .args .file .now) (loop .at) (start .args .end) (v .given .0 .0) (flow-view .ensures) (v .given .1)))
-          (put-flow .ensures),
+          (flows-next (flows-plain (start .args .file .now) (start .args .kept .now) (loop .at) (start .args .end) (loop .inv .0 .0) (start .pre .0 .within) (start .pre .0 .short) (loop .inv .1 .0) (loop .inv .1 .1) (v .given .0 .0) (flow-view .ensures) (v .given .1)))
+          (at-put-flow .put-flow .ensures),
     )
 
 pub put-flows-spec : {M : Type 1} → statement M
@@ -109,7 +112,6 @@ put-flows-spec =
     enum-known-v
     enum-told
     same-length
-    same-length-2
     returns
     put-flow-requires
     loop-less

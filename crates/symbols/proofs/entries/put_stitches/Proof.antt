@@ -1,14 +1,19 @@
 -- `symbols::entries::put_stitches` meets its contract. The loop's invariant: what is left to be stored are the stitches from `at` on,
--- and they can be read. Assumes nothing.
+-- they can be read, and their items are kept. Assumes nothing.
 use mathlib.Core.Path.{_≡_, ap, refl}
+use mathlib.Core.List.{List, map}
 use Prim.Native.Nat.{_≤_, _-_}
 use native.Mathlib.Omega.{arith}
 use lib.ListN.{length}
 use Rattle.names.specs.Words.{each}
 use Rattle.records.specs.Trace.{well, ends}
-use Rattle.story.specs.Flows.{part, piecesIn, stitchIn, stitches}
-use Rattle.searches.proofs.Viewed.{stitch-viewed, stitch-laid}
+use Rattle.story.specs.Story.{Stitch}
+use Rattle.story.specs.Plain.{stitchWithoutPlain}
+use Rattle.story.specs.Flows.{part, stitches}
+use Rattle.searches.proofs.Viewed.{stitch-laid}
 use Rattle.searches.proofs.Readable.{no-stitch, stitch-readable}
+use Rattle.items.specs.Bodies.{keptStitches, StitchesKept}
+use Rattle.items.proofs.Kept.{stitch-rest, stitches-plain}
 use Rattle.symbols.specs.Placed.{stitchPlaced}
 use Rattle.symbols.proofs.Stored.{Storing, storing-start, storing-end, storing-many}
 use borrow.Author.Needs.{needs}
@@ -16,16 +21,16 @@ use Rattle.symbols.proofs.entries.put_stitches.Statement.{statement}
 use Rattle.symbols.proofs.entries.put_stitches.Tie as tie
 
 abbrev Inv-loop : tie.InvT-loop
-Inv-loop file from end flow index₀ n batch₀ at₀ count₀ index batch at count =
-    ((at ≤ end) × (length index ≡ length index₀) × (length batch ≡ length batch₀))
-    × (ends (stitches (part at end file)) ≡ well)
-    × Storing index₀ n (each (stitchPlaced flow) (piecesIn stitchIn from (part from end file))) index count (each (stitchPlaced flow) (piecesIn stitchIn at (part at end file)))
+Inv-loop file kept from end flow index₀ n at₀ count₀ index at count =
+    ((at ≤ end) × (length index ≡ length index₀))
+    × ((ends (stitches (part at end file)) ≡ well) × StitchesKept file kept at end)
+    × Storing index₀ n (each (stitchPlaced flow) (keptStitches file from end)) index count (each (stitchPlaced flow) (keptStitches file at end))
 
 abbrev μ-loop : tie.MeasureT-loop
-μ-loop file from end flow index₀ n batch₀ at₀ count₀ index batch at count = end - at
+μ-loop file kept from end flow index₀ n at₀ count₀ index at count = end - at
 
 loop-holds : tie.Need-loop-holds Inv-loop μ-loop
-loop-holds c = ((c .before .before .before .pre .0 .ordered, refl, refl), c .before .before .before .pre .1 .0, storing-start)
+loop-holds c = let start = c .before .before .before in ((start .pre .0 .ordered, refl), start .pre .1, storing-start)
 
 stitch-view-requires : tie.Need-stitch-view-requires Inv-loop μ-loop
 stitch-view-requires c κs = (c .loop .inv .0 .0, c .before .before .before .before .pre .0 .within)
@@ -39,35 +44,27 @@ enum-told c = search needs
 same-length : tie.Need-same-length Inv-loop μ-loop
 same-length c = search needs
 
-same-length-2 : tie.Need-same-length-2 Inv-loop μ-loop
-same-length-2 c = search needs
-
 returns : tie.Need-returns Inv-loop μ-loop
 returns c =
-    let start = c .before .before .before .before .before .before .before in
-    let loop = c .before .before .before .loop in
-    storing-end (loop .inv .2) (ap (each (stitchPlaced (start .args .flow))) (no-stitch (start .args .file .now) (loop .at) (start .args .end) (loop .inv .1) (c .before .before .stitch-view .ensures) (c .enum-told .given .1)))
+    let at-loop = c .before .before .before in
+    let start = at-loop .before .before .before .before in
+    let loop = at-loop .loop in
+    storing-end (loop .inv .2) (ap (λ (ts : List Stitch). each (stitchPlaced (start .args .flow)) (map stitchWithoutPlain ts)) (no-stitch (start .args .file .now) (loop .at) (start .args .end) (loop .inv .1 .0) (c .before .before .stitch-view .ensures) (c .enum-told .given .1)))
 
 put-stitch-requires : tie.Need-put-stitch-requires Inv-loop μ-loop
 put-stitch-requires c κs =
-    let at-stitch-view = c .before .before .before .before .before in
+    let at-v = c .before .before in
+    let at-stitch-view = at-v .before .before in
     let at-loop = at-stitch-view .before in
     let start = at-loop .before .before .before .before in
     let loop = at-loop .loop in
     let stitch-view = at-stitch-view .stitch-view in
-    let v = c .before .before .before .v in
-    let l = stitch-laid (start .args .file .now) (loop .at) (start .args .end) (v .given .0 .0) (stitch-view .ensures) (v .given .1) in (
-      (
-        l .name,
-        omega arith,
-        record { ordered = l .from; within = omega (arith, start .pre .0 .within); short = start .pre .0 .short },
-      ),
-      omega (arith, loop .inv .0, start .pre .1 .1),
-    )
+    let v = at-v .v in
+    let l = stitch-laid (start .args .file .now) (loop .at) (start .args .end) (v .given .0 .0) (stitch-view .ensures) (v .given .1) in ((l .name, omega (arith, start .pre .0 .within), start .pre .0 .short), loop .inv .1 .1 .rising)
 
 loop-less : tie.Need-loop-less Inv-loop μ-loop
 loop-less c =
-    let at-v = c .before .before .before .before .before .before .before .before in
+    let at-v = c .before .before .before .before .before in
     let at-stitch-view = at-v .before .before in
     let at-loop = at-stitch-view .before in
     let start = at-loop .before .before .before .before in
@@ -78,21 +75,23 @@ loop-less c =
 
 loop-again : tie.Need-loop-again Inv-loop μ-loop
 loop-again c =
-    let at-put-stitch = c .before .before .before .before in
-    let at-v = at-put-stitch .before .before .before .before in
+    let at-put-stitch = c .before .before in
+    let at-v = at-put-stitch .before .before .before in
     let at-stitch-view = at-v .before .before in
     let at-loop = at-stitch-view .before in
     let start = at-loop .before .before .before .before in
     let loop = at-loop .loop in
     let stitch-view = at-stitch-view .stitch-view in
     let v = at-v .v in
-    let put-stitch = at-put-stitch .put-stitch in
     let l = stitch-laid (start .args .file .now) (loop .at) (start .args .end) (v .given .0 .0) (stitch-view .ensures) (v .given .1) in (
       omega (arith, loop .inv .0),
-      stitch-readable (start .args .file .now) (loop .at) (start .args .end) (loop .inv .1) (stitch-view .ensures) (v .given .0 .0) (v .given .1) .rest,
+      (
+        stitch-readable (start .args .file .now) (loop .at) (start .args .end) (loop .inv .1 .0) (stitch-view .ensures) (v .given .0 .0) (v .given .1) .rest,
+        stitch-rest (start .args .file .now) (start .args .kept .now) (loop .at) (start .args .end) (loop .inv .0 .0) (start .pre .0 .within) (start .pre .0 .short) (loop .inv .1 .0) (loop .inv .1 .1) (v .given .0 .0) (stitch-view .ensures) (v .given .1),
+      ),
       storing-many (loop .inv .2) _
-          (ap (each (stitchPlaced (start .args .flow))) (stitch-viewed (start .args .file .now) (loop .at) (start .args .end) (v .given .0 .0) (stitch-view .ensures) (v .given .1)))
-          (put-stitch .ensures),
+          (ap (each (stitchPlaced (start .args .flow))) (stitches-plain (start .args .file .now) (start .args .kept .now) (loop .at) (start .args .end) (loop .inv .0 .0) (start .pre .0 .within) (start .pre .0 .short) (loop .inv .1 .0) (loop .inv .1 .1) (v .given .0 .0) (stitch-view .ensures) (v .given .1)))
+          (at-put-stitch .put-stitch .ensures),
     )
 
 pub put-stitches-spec : {M : Type 1} → statement M
@@ -106,7 +105,6 @@ put-stitches-spec =
     enum-known-v
     enum-told
     same-length
-    same-length-2
     returns
     put-stitch-requires
     loop-less

@@ -7,7 +7,7 @@ use denote.Enum.Declared.{tagOf}
 use Rattle.records.proofs.Walk.{the-type}
 use Rattle.fields.specs.declared.Role.the-variants.{Branch}
 use Rattle.records.specs.Grammar.{recordOf, arms, orElse}
-use Rattle.records.specs.Work.{st, noting}
+use Rattle.records.specs.Work.{st, keeping}
 use Rattle.fields.proofs.Laws.{list-fits}
 use Rattle.records.proofs.Walking.{listed-cut, listed-else, listed-on, not-done}
 use borrow.Author.Needs.{needs}
@@ -23,7 +23,7 @@ module _ (t : ℕ) where
   unfolding arms
   cut c =
       let a = c .before .before .before .before .before .args in
-      (listed-cut (noting (a .skip)) (a .base) (st (a .out .now) (a .n)) (recordOf (a .left) Branch) (orElse (recordOf (a .left))) (a .s .now) (c .before .before .read-list .ensures) (c .enum-told .given .1))
+      (listed-cut keeping (a .base) (st (a .out .now) (a .n)) (recordOf (a .left) Branch) (orElse (recordOf (a .left))) (a .s .now) (c .before .before .read-list .ensures) (c .enum-told .given .1))
 
   add-e : lts.Need-add-e (walk-arms-uses t) (walk-arms-at t) walk-arms.Post
   add-e c = omega (arith, fits c)
@@ -42,7 +42,7 @@ module _ (t : ℕ) where
   other c =
       let a = c .before .before .before .before .before .before .before .before .before .before .before .before .before .args in
       let k = c .before .before .before .before .before .before .before .before .len .given in
-      (listed-else (noting (a .skip)) (a .base) (st (a .out .now) (a .n)) (recordOf (a .left) Branch) (orElse (recordOf (a .left))) (a .s .now) (k .0 .0)
+      (listed-else keeping (a .base) (st (a .out .now) (a .n)) (recordOf (a .left) Branch) (orElse (recordOf (a .left))) (a .s .now) (k .0 .0)
       (c .before .before .before .before .before .before .before .before .before .before .read-list .ensures) (k .1) (c .before .before .before .before .list .ensures) (not-done (tagOf the-type) (λ m. refl) (c .before .before .before .before .list .result) (c .before .match2 .keys2)))
 
   sub-rest : lts.Need-sub-else-arm (walk-arms-uses t) (walk-arms-at t) walk-arms.Post
@@ -68,7 +68,7 @@ module _ (t : ℕ) where
       let list = c .before .before .before .before .before .before .before .before .before .before .list in
       let w = c .before .before .before .before .before .before .w in
       let k = len .given in
-      rw (listed-on (noting (a .skip)) (a .base) (st (a .out .now) (a .n)) (recordOf (a .left) Branch) (orElse (recordOf (a .left))) (a .s .now) (k .0 .0) (w .given .0 .0) (read-list .ensures) (k .1) (list .ensures) (w .given .1)) (c .before .before .else-arm .ensures)
+      rw (listed-on keeping (a .base) (st (a .out .now) (a .n)) (recordOf (a .left) Branch) (orElse (recordOf (a .left))) (a .s .now) (k .0 .0) (w .given .0 .0) (read-list .ensures) (k .1) (list .ensures) (w .given .1)) (c .before .before .else-arm .ensures)
 
   pub ok : {M : Type 1} → lts.Closed (walk-arms-uses t) (walk-arms-at t) walk-arms.Post M
   ok = lts.spec (walk-arms-uses t) (walk-arms-at t) walk-arms.Post (λ c κs. search needs) (λ c. search needs) (λ c. search needs) cut add-e (λ c. search needs) (λ c. search needs) part-end add-4 piece-requires (λ c. search needs) (λ c. search needs) (λ c. search needs) other sub-rest part-rest (λ c. search needs) add-base rest-requires (λ c. search needs) rest

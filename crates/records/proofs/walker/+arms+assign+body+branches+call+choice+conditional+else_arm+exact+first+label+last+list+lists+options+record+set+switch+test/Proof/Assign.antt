@@ -3,7 +3,7 @@ use Prim.Native.Nat.{ℕ}
 use native.Mathlib.Omega.{arith}
 use Rattle.fields.specs.declared.Role.the-variants.{Visited}
 use Rattle.records.specs.Grammar.{recordOf, named, exact}
-use Rattle.records.specs.Work.{st, noting}
+use Rattle.records.specs.Work.{st, keeping}
 use Rattle.records.proofs.Walking.{moded-cut, moded-on, moded-no}
 use borrow.Author.Needs.{needs}
 use Rattle.records.proofs.walker.assign.Reads as walk-assign
@@ -14,7 +14,7 @@ module _ (t : ℕ) where
   cut : lts.Need-returns (walk-assign-uses t) (walk-assign-at t) walk-assign.Post
   cut c =
       let a = c .before .before .before .args in
-      moded-cut (noting (a .skip)) (a .base) (st (a .out .now) (a .n)) (named (exact 1 (recordOf (a .left) Visited))) (a .s .now) (omega (arith, c .if1 .taken))
+      moded-cut keeping (a .base) (st (a .out .now) (a .n)) (named (exact 1 (recordOf (a .left) Visited))) (a .s .now) (omega (arith, c .if1 .taken))
 
   add-base : lts.Need-add-set (walk-assign-uses t) (walk-assign-at t) walk-assign.Post
   add-base c = omega (arith, c .before .before .before .if1 .left, c .before .before .before .before .before .before .pre .1)
@@ -27,12 +27,12 @@ module _ (t : ℕ) where
       let a = c .before .before .before .before .before .before .before .before .before .before .args in
       let if1 = c .before .before .before .before .before .before .before .if1 in
       let if2 = c .before .before .before .before .before .if2 in
-      rw (moded-on (noting (a .skip)) (a .base) (st (a .out .now) (a .n)) (named (exact 1 (recordOf (a .left) Visited))) (a .s .now) (omega (arith, if1 .left)) (omega (arith, if2 .taken))) (c .before .before .set .ensures)
+      rw (moded-on keeping (a .base) (st (a .out .now) (a .n)) (named (exact 1 (recordOf (a .left) Visited))) (a .s .now) (omega (arith, if1 .left)) (omega (arith, if2 .taken))) (c .before .before .set .ensures)
 
   unknown : lts.Need-returns-3 (walk-assign-uses t) (walk-assign-at t) walk-assign.Post
   unknown c =
       let a = c .before .before .before .before .before .args in
-      moded-no (noting (a .skip)) (a .base) (st (a .out .now) (a .n)) (named (exact 1 (recordOf (a .left) Visited))) (a .s .now) (omega (arith, c .before .before .if1 .left)) (omega (arith, c .if2 .left))
+      moded-no keeping (a .base) (st (a .out .now) (a .n)) (named (exact 1 (recordOf (a .left) Visited))) (a .s .now) (omega (arith, c .before .before .if1 .left)) (omega (arith, c .if2 .left))
 
   pub ok : {M : Type 1} → lts.Closed (walk-assign-uses t) (walk-assign-at t) walk-assign.Post M
   ok = lts.spec (walk-assign-uses t) (walk-assign-at t) walk-assign.Post cut (λ c. search needs) (λ c. search needs) (λ c. search needs) (λ c. search needs) add-base rest-requires (λ c. search needs) rest unknown

@@ -68,7 +68,9 @@ use Rattle.fields.proofs.read_kind.Reads as read-kind-reads
 use Rattle.fields.proofs.read_list.Reads as read-list-reads
 use Rattle.fields.proofs.read_name.Reads as read-name-reads
 use Rattle.fields.proofs.test_span.Reads as test-span-reads
+use Rattle.records.proofs.sorts.is_bare.Reads as is-bare-reads
 use Rattle.records.proofs.walker.at_end.Reads as at-end-reads
+use Rattle.std.proofs.num.wrapping_add_usize.Reads as wrapping-add-usize-reads
 use Rattle.records.proofs.walker.note.Reads as note-reads
 use Rattle.records.proofs.walker.single.Reads as walk-single-reads
 
@@ -281,7 +283,7 @@ module _ (t : ℕ) where
   walk-last-uses = (read-list-reads.Asked, read-list-reads.Learnt, walk-list-below, walk-list.Post, at-end-reads.Asked, at-end-reads.Learnt)
 
   abbrev pub walk-list-uses : walk-list-lts.Claims
-  walk-list-uses = (read-head-reads.Asked, read-head-reads.Learnt, walk-record-below, walk-record.Post)
+  walk-list-uses = (read-head-reads.Asked, read-head-reads.Learnt, is-bare-reads.Asked, is-bare-reads.Learnt, wrapping-add-usize-reads.Asked, wrapping-add-usize-reads.Learnt, walk-record-below, walk-record.Post)
 
   abbrev pub walk-lists-uses : walk-lists-lts.Claims
   walk-lists-uses = (read-list-reads.Asked, read-list-reads.Learnt, walk-list-below, walk-list.Post)

@@ -8,7 +8,7 @@ use Rattle.records.proofs.Walk.{the-type}
 use Rattle.fields.specs.declared.Role.the-variants.{Branch}
 use Rattle.records.specs.Work.{run}
 use Rattle.records.specs.Grammar.{recordOf, repeat, branch}
-use Rattle.records.specs.Work.{st, noting}
+use Rattle.records.specs.Work.{st, keeping}
 use Rattle.fields.proofs.Laws.{list-fits, test-fits}
 use Rattle.records.proofs.Readings.{repeat-none, repeat-step, branch-local}
 use Rattle.records.proofs.Walking.{branch-on, branch-else, listed-cut, listed-else, listed-on, not-done, told-done}
@@ -20,12 +20,12 @@ use Rattle.records.proofs.walker.+arms+assign+body+branches+call+choice
 
 -- what is left stands at `at`, and the run of the whole is the run of what is left
 abbrev Inv : lts.InvT-loop
-Inv s base left skip out₀ n t₀ at₀ count₀ out t at count =
+Inv s base left out₀ n t₀ at₀ count₀ out t at count =
     ((at + length t ≡ base + length s) × (length t ≤ length s) × (length out ≡ length out₀))
-    × (run (noting skip) base (st out₀ n) (repeat (branch (recordOf left)) s) ≡ run (noting skip) at (st out count) (repeat (branch (recordOf left)) t))
+    × (run keeping base (st out₀ n) (repeat (branch (recordOf left)) s) ≡ run keeping at (st out count) (repeat (branch (recordOf left)) t))
 
 abbrev μ : lts.MeasureT-loop
-μ s base left skip out₀ n t₀ at₀ count₀ out t at count = length t
+μ s base left out₀ n t₀ at₀ count₀ out t at count = length t
 
 module _ (t : ℕ) where
   holds : lts.Need-loop-holds (walk-branches-uses t) (walk-branches-at t) walk-branches.Post Inv μ
@@ -41,7 +41,7 @@ module _ (t : ℕ) where
       let loop-test = c .before .before .before .before .before .before .loop-test in
       let test = c .before .before .before .before .test in
       rw (l .inv .1, repeat-step (branch (recordOf (a .left))) (branch-local (recordOf (a .left))) (l .t .now) (loop-test .taken))
-      (branch-else (noting (a .skip)) (l .at) (st (l .out) (l .count)) (recordOf (a .left)) (repeat (branch (recordOf (a .left)))) (l .t .now) (test .ensures) (not-done (tagOf the-type) (λ m. refl) (test .result) (c .before .match .keys2)))
+      (branch-else keeping (l .at) (st (l .out) (l .count)) (recordOf (a .left)) (repeat (branch (recordOf (a .left)))) (l .t .now) (test .ensures) (not-done (tagOf the-type) (λ m. refl) (test .result) (c .before .match .keys2)))
 
   span : (c : lts.After-test-span (walk-branches-uses t) (walk-branches-at t) walk-branches.Post Inv μ) → (0 < c .test-span .result) × (c .test-span .result ≤ length (c .before .before .before .before .before .before .before .before .before .loop .t .now))
   span c = test-fits (c .before .before .before .before .before .before .before .before .before .loop .t .now) (c .before .before .before .before .before .before .before .before .loop-test .taken) (c .test-span .ensures)
@@ -63,8 +63,8 @@ module _ (t : ℕ) where
       let test = c .before .before .before .before .before .before .before .before .before .before .test in
       let w = c .before .before .before .before .before .before .w in
       let test-span = c .before .before .before .before .test-span in
-      rw (l .inv .1, repeat-step (branch (recordOf (a .left))) (branch-local (recordOf (a .left))) (l .t .now) (loop-test .taken), branch-on (noting (a .skip)) (l .at) (st (l .out) (l .count)) (recordOf (a .left)) (repeat (branch (recordOf (a .left)))) (l .t .now) (w .given .0 .0) (test-span .result) (test .ensures) (w .given .1) (test-span .ensures))
-      (listed-cut (noting (a .skip)) (l .at + test-span .result) (st (test .last .1 .1 .1 .1 .0) (w .given .0 .0)) (recordOf (a .left) Branch) (repeat (branch (recordOf (a .left)))) (take (length (l .t .now) - test-span .result) (drop (test-span .result) (l .t .now))) (c .before .before .read-list .ensures) (c .enum-told2 .given .1))
+      rw (l .inv .1, repeat-step (branch (recordOf (a .left))) (branch-local (recordOf (a .left))) (l .t .now) (loop-test .taken), branch-on keeping (l .at) (st (l .out) (l .count)) (recordOf (a .left)) (repeat (branch (recordOf (a .left)))) (l .t .now) (w .given .0 .0) (test-span .result) (test .ensures) (w .given .1) (test-span .ensures))
+      (listed-cut keeping (l .at + test-span .result) (st (test .last .1 .1 .1 .0) (w .given .0 .0)) (recordOf (a .left) Branch) (repeat (branch (recordOf (a .left)))) (take (length (l .t .now) - test-span .result) (drop (test-span .result) (l .t .now))) (c .before .before .read-list .ensures) (c .enum-told2 .given .1))
 
   fits : (c : lts.After-known-told2 (walk-branches-uses t) (walk-branches-at t) walk-branches.Post Inv μ) → 4 + c .before .len .given .0 .0 ≤ length (c .before .before .before .before .before .before .before .before .before .before .before .before .before .before .loop .t .now) - c .before .before .before .before .before .test-span .result
   fits c =
@@ -106,15 +106,15 @@ module _ (t : ℕ) where
       let read-list = c .before .before .before .before .before .before .before .before .before .before .read-list in
       let len = c .before .before .before .before .before .before .before .before .len in
       let list = c .before .before .before .before .list in
-      rw (l .inv .1, repeat-step (branch (recordOf (a .left))) (branch-local (recordOf (a .left))) (l .t .now) (loop-test .taken), branch-on (noting (a .skip)) (l .at) (st (l .out) (l .count)) (recordOf (a .left)) (repeat (branch (recordOf (a .left)))) (l .t .now) (w .given .0 .0) (test-span .result) (test .ensures) (w .given .1) (test-span .ensures))
-      (listed-else (noting (a .skip)) (l .at + test-span .result) (st (test .last .1 .1 .1 .1 .0) (w .given .0 .0)) (recordOf (a .left) Branch) (repeat (branch (recordOf (a .left)))) (take (length (l .t .now) - test-span .result) (drop (test-span .result) (l .t .now))) (len .given .0 .0) (read-list .ensures) (len .given .1) (list .ensures) (not-done (tagOf the-type) (λ m. refl) (list .result) (c .before .match3 .keys2)))
+      rw (l .inv .1, repeat-step (branch (recordOf (a .left))) (branch-local (recordOf (a .left))) (l .t .now) (loop-test .taken), branch-on keeping (l .at) (st (l .out) (l .count)) (recordOf (a .left)) (repeat (branch (recordOf (a .left)))) (l .t .now) (w .given .0 .0) (test-span .result) (test .ensures) (w .given .1) (test-span .ensures))
+      (listed-else keeping (l .at + test-span .result) (st (test .last .1 .1 .1 .0) (w .given .0 .0)) (recordOf (a .left) Branch) (repeat (branch (recordOf (a .left)))) (take (length (l .t .now) - test-span .result) (drop (test-span .result) (l .t .now))) (len .given .0 .0) (read-list .ensures) (len .given .1) (list .ensures) (not-done (tagOf the-type) (λ m. refl) (list .result) (c .before .match3 .keys2)))
 
   same-3 : lts.Need-same-length-3 (walk-branches-uses t) (walk-branches-at t) walk-branches.Post Inv μ
   same-3 c =
       let loop = c .before .before .before .before .before .before .before .before .before .before .before .before .before .before .before .before .before .before .before .before .before .loop in
       let test = c .before .before .before .before .before .before .before .before .before .before .before .before .before .before .before .before .before .before .test in
       let list = c .before .before .before .before .list in
-      list .kept .1 .1 .1 .1 .1 .0 ∙ (test .kept .1 .1 .1 .1 .0 ∙ loop .inv .0 .2)
+      list .kept .1 .1 .1 .1 .0 ∙ (test .kept .1 .1 .1 .0 ∙ loop .inv .0 .2)
 
   add-at : lts.Need-add-at (walk-branches-uses t) (walk-branches-at t) walk-branches.Post Inv μ
   add-at c =
@@ -148,15 +148,15 @@ module _ (t : ℕ) where
       let x = c .before .before .x in
       let l = loop in (
         omega (arith, span (c .before .before .before .before .before .before .before .before .before .before .before .before .before .before), fits (c .before .before .before .before .before .before .before .before .before), u .given .2, c .t .given .2, l .inv .0, test .kept, list .kept),
-        l .inv .1 ∙ rw (repeat-step (branch (recordOf (a .left))) (branch-local (recordOf (a .left))) (l .t .now) (loop-test .taken), branch-on (noting (a .skip)) (l .at) (st (l .out) (l .count)) (recordOf (a .left)) (repeat (branch (recordOf (a .left)))) (l .t .now) (w .given .0 .0) (test-span .result) (test .ensures) (w .given .1) (test-span .ensures))
-            (listed-on (noting (a .skip)) (l .at + test-span .result) (st (test .last .1 .1 .1 .1 .0) (w .given .0 .0)) (recordOf (a .left) Branch) (repeat (branch (recordOf (a .left)))) (take (length (l .t .now) - test-span .result) (drop (test-span .result) (l .t .now))) (len .given .0 .0) (x .given .0 .0) (read-list .ensures) (len .given .1) (list .ensures) (x .given .1)),
+        l .inv .1 ∙ rw (repeat-step (branch (recordOf (a .left))) (branch-local (recordOf (a .left))) (l .t .now) (loop-test .taken), branch-on keeping (l .at) (st (l .out) (l .count)) (recordOf (a .left)) (repeat (branch (recordOf (a .left)))) (l .t .now) (w .given .0 .0) (test-span .result) (test .ensures) (w .given .1) (test-span .ensures))
+            (listed-on keeping (l .at + test-span .result) (st (test .last .1 .1 .1 .0) (w .given .0 .0)) (recordOf (a .left) Branch) (repeat (branch (recordOf (a .left)))) (take (length (l .t .now) - test-span .result) (drop (test-span .result) (l .t .now))) (len .given .0 .0) (x .given .0 .0) (read-list .ensures) (len .given .1) (list .ensures) (x .given .1)),
       )
 
   finished : lts.Need-returns-4 (walk-branches-uses t) (walk-branches-at t) walk-branches.Post Inv μ
   finished c =
       let a = c .before .before .before .before .args in
       let l = c .before .loop in
-      rw (l .inv .1) (told-done (noting (a .skip)) (l .at) (st (l .out) (l .count)) (repeat (branch (recordOf (a .left))) (l .t .now)) (repeat-none (branch (recordOf (a .left))) (l .t .now) (c .loop-test .left)))
+      rw (l .inv .1) (told-done keeping (l .at) (st (l .out) (l .count)) (repeat (branch (recordOf (a .left))) (l .t .now)) (repeat-none (branch (recordOf (a .left))) (l .t .now) (c .loop-test .left)))
 
   pub ok : {M : Type 1} → lts.Closed (walk-branches-uses t) (walk-branches-at t) walk-branches.Post M
   ok = lts.spec (walk-branches-uses t) (walk-branches-at t) walk-branches.Post Inv μ holds test-requires (λ c. search needs) (λ c. search needs) (λ c. search needs) other-test (λ c κs. search needs) sub-u part-u (λ c. search needs) add-p (λ c κs. search needs) (λ c. search needs) (λ c. search needs) (λ c. search needs) cut add-d (λ c. search needs) (λ c. search needs) part-end add-4 list-requires (λ c. search needs) (λ c. search needs) same-3 other-list add-at sub-t part-t (λ c. search needs) less again (λ c. search needs) finished

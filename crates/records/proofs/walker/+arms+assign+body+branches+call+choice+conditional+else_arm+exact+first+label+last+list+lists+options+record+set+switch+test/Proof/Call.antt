@@ -3,9 +3,9 @@ use Prim.Native.Nat.{ℕ, _+_, _≤_}
 use native.Mathlib.Omega.{arith}
 use lib.ListN.{length}
 use Rattle.records.specs.Grammar.{recordOf, records}
-use Rattle.records.specs.Work.{st, noting}
+use Rattle.records.specs.Work.{st, keeping}
 use Rattle.fields.proofs.Laws.{name-fits}
-use Rattle.records.proofs.Walking.{named-refused, named-on}
+use Rattle.records.proofs.Walking.{named-refused, named-none, named-on}
 use borrow.Author.Needs.{needs}
 use Rattle.records.proofs.walker.call.Reads as walk-call
 use Rattle.records.proofs.walker.+arms+assign+body+branches+call+choice+conditional+else_arm+exact+first+label+last+list+lists+options+record+set+switch+test.Lts-call as lts
@@ -15,32 +15,29 @@ module _ (t : ℕ) where
   fits : (c : lts.After-known-told2 (walk-call-uses t) (walk-call-at t) walk-call.Post) → 1 + c .before .answer2 .given .0 .0 ≤ length (c .before .before .before .before .before .before .args .s .now)
   fits c = name-fits (c .before .before .before .before .before .before .args .s .now) (c .before .answer2 .given .0 .0) (c .before .before .before .read-name .ensures) (c .before .answer2 .given .1)
 
-  cut : lts.Need-returns (walk-call-uses t) (walk-call-at t) walk-call.Post
-  cut c =
-      let a = c .before .before .before .before .before .before .args in
-      named-refused (noting (a .skip)) (a .base) (st (a .out .now) (a .n)) (records (recordOf (a .left) (a .role))) (a .s .now) (c .before .answer .given .0 .0) (c .before .before .before .read-name .ensures) (c .before .answer .given .1)
-
   add-e : lts.Need-add-e (walk-call-uses t) (walk-call-at t) walk-call.Post
   add-e c = omega (arith, fits c)
 
+  alone : lts.Need-returns (walk-call-uses t) (walk-call-at t) walk-call.Post
+  alone c = let a = c .before .before .before .before .before .before .before .args in named-none keeping (a .base) (st (a .out .now) (a .n)) (recordOf (a .left) (a .role)) (a .s .now) (c .before .before .answer2 .given .0 .0) (c .before .before .before .before .read-name .ensures) (c .before .before .answer2 .given .1) (c .if1 .taken)
+
   sub-rest : lts.Need-sub-list (walk-call-uses t) (walk-call-at t) walk-call.Post
-  sub-rest c = fits c
+  sub-rest c = fits (c .before)
 
   part-rest : lts.Need-part-list-start (walk-call-uses t) (walk-call-at t) walk-call.Post
-  part-rest c = omega (arith, fits c)
+  part-rest c = omega (arith, fits (c .before))
 
   add-base : lts.Need-add-list (walk-call-uses t) (walk-call-at t) walk-call.Post
-  add-base c = omega (arith, fits (c .before), c .before .before .before .before .before .before .before .pre .1)
+  add-base c = omega (arith, fits (c .before .before), c .before .before .before .before .before .before .before .before .pre .1)
 
   rest-requires : lts.Need-list-requires (walk-call-uses t) (walk-call-at t) walk-call.Post
-  rest-requires c κs = omega (arith, fits (c .before .before), c .before .list-arg .given .2, c .before .before .before .before .before .before .before .before .pre .0, c .before .before .before .before .before .before .before .before .pre .1)
+  rest-requires c κs = omega (arith, fits (c .before .before .before), c .before .list-arg .given .2, c .before .before .before .before .before .before .before .before .before .pre .0, c .before .before .before .before .before .before .before .before .before .pre .1)
 
-  rest : lts.Need-returns-2 (walk-call-uses t) (walk-call-at t) walk-call.Post
-  rest c =
-      let a = c .before .before .before .before .before .before .before .before .before .before .before .args in
-      let read-name = c .before .before .before .before .before .before .before .before .read-name in
-      let answer2 = c .before .before .before .before .before .before .answer2 in
-      rw (named-on (noting (a .skip)) (a .base) (st (a .out .now) (a .n)) (records (recordOf (a .left) (a .role))) (a .s .now) (answer2 .given .0 .0) (read-name .ensures) (answer2 .given .1)) (c .before .before .list .ensures)
+  cut : lts.Need-returns-2 (walk-call-uses t) (walk-call-at t) walk-call.Post
+  cut c = let a = c .before .before .before .before .before .before .args in named-refused keeping (a .base) (st (a .out .now) (a .n)) (records (recordOf (a .left) (a .role))) (a .s .now) (c .before .answer .given .0 .0) (c .before .before .before .read-name .ensures) (c .before .answer .given .1)
+
+  rest : lts.Need-returns-3 (walk-call-uses t) (walk-call-at t) walk-call.Post
+  rest c = let a = c .before .before .before .before .before .before .before .before .before .before .before .before .args in rw (named-on keeping (a .base) (st (a .out .now) (a .n)) (records (recordOf (a .left) (a .role))) (a .s .now) (c .before .before .before .before .before .before .before .answer2 .given .0 .0) (c .before .before .before .before .before .before .before .before .before .read-name .ensures) (c .before .before .before .before .before .before .before .answer2 .given .1)) (c .before .before .list .ensures)
 
   pub ok : {M : Type 1} → lts.Closed (walk-call-uses t) (walk-call-at t) walk-call.Post M
-  ok = lts.spec (walk-call-uses t) (walk-call-at t) walk-call.Post (λ c κs. search needs) (λ c. search needs) (λ c. search needs) add-e sub-rest part-rest (λ c. search needs) add-base rest-requires cut (λ c. search needs) rest
+  ok = lts.spec (walk-call-uses t) (walk-call-at t) walk-call.Post (λ c κs. search needs) (λ c. search needs) (λ c. search needs) add-e alone sub-rest part-rest (λ c. search needs) add-base rest-requires cut (λ c. search needs) rest

@@ -3,7 +3,7 @@ use Prim.Native.Nat.{ℕ, _≤_}
 use native.Mathlib.Omega.{arith}
 use lib.ListN.{length}
 use Rattle.fields.proofs.Laws.{off-fits, on-fits}
-use Rattle.records.specs.Work.{st, noting}
+use Rattle.records.specs.Work.{st, keeping}
 use Rattle.records.specs.Grammar.{recordOf, named, options}
 use Rattle.records.proofs.Walking.{flagged-refused, flagged-off, flagged-on}
 use borrow.Author.Needs.{needs}
@@ -47,19 +47,19 @@ module _ (t : ℕ) where
       let a = c .before .before .before .before .before .before .before .before .before .before .args in
       let read-flag = c .before .before .before .before .before .before .before .read-flag in
       let enum-told = c .before .before .before .before .before .enum-told in
-      rw (flagged-off (noting (a .skip)) (a .base) (st (a .out .now) (a .n)) (options (recordOf (a .left))) (named (options (recordOf (a .left)))) (a .s .now) (read-flag .ensures) (enum-told .given .1)) (c .before .before .options .ensures)
+      rw (flagged-off keeping (a .base) (st (a .out .now) (a .n)) (options (recordOf (a .left))) (named (options (recordOf (a .left)))) (a .s .now) (read-flag .ensures) (enum-told .given .1)) (c .before .before .options .ensures)
 
   by-on : lts.Need-returns-2 (walk-choice-uses t) (walk-choice-at t) walk-choice.Post
   by-on c =
       let a = c .before .before .before .before .before .before .before .before .before .before .args in
       let read-flag = c .before .before .before .before .before .before .before .read-flag in
       let enum-told2 = c .before .before .before .before .before .enum-told2 in
-      rw (flagged-on (noting (a .skip)) (a .base) (st (a .out .now) (a .n)) (options (recordOf (a .left))) (named (options (recordOf (a .left)))) (a .s .now) (read-flag .ensures) (enum-told2 .given .1)) (c .before .before .label .ensures)
+      rw (flagged-on keeping (a .base) (st (a .out .now) (a .n)) (options (recordOf (a .left))) (named (options (recordOf (a .left)))) (a .s .now) (read-flag .ensures) (enum-told2 .given .1)) (c .before .before .label .ensures)
 
   refused : lts.Need-returns-3 (walk-choice-uses t) (walk-choice-at t) walk-choice.Post
   refused c =
       let a = c .before .before .before .before .before .before .args in
-      flagged-refused (noting (a .skip)) (a .base) (st (a .out .now) (a .n)) (options (recordOf (a .left))) (named (options (recordOf (a .left)))) (a .s .now) (c .before .flag .given .0 .0) (c .before .before .before .read-flag .ensures) (c .before .flag .given .1)
+      flagged-refused keeping (a .base) (st (a .out .now) (a .n)) (options (recordOf (a .left))) (named (options (recordOf (a .left)))) (a .s .now) (c .before .flag .given .0 .0) (c .before .before .before .read-flag .ensures) (c .before .flag .given .1)
 
   pub ok : {M : Type 1} → lts.Closed (walk-choice-uses t) (walk-choice-at t) walk-choice.Post M
   ok = lts.spec (walk-choice-uses t) (walk-choice-at t) walk-choice.Post (λ c κs. search needs) (λ c. search needs) sub-off part-off (λ c. search needs) add-off off-requires (λ c. search needs) sub-on part-on (λ c. search needs) add-on on-requires (λ c. search needs) (λ c. search needs) by-off (λ c. search needs) by-on refused

@@ -4,7 +4,7 @@ use native.Mathlib.Omega.{arith}
 use lib.ListN.{length}
 use Rattle.fields.specs.declared.Role.the-variants.{Branch}
 use Rattle.fields.proofs.Laws.{off-fits, on-fits}
-use Rattle.records.specs.Work.{st, noting}
+use Rattle.records.specs.Work.{st, keeping}
 use Rattle.records.specs.Grammar.{recordOf, ending, last, orElse}
 use Rattle.records.proofs.Walking.{flagged-refused, flagged-off, flagged-on, told-end}
 use borrow.Author.Needs.{needs}
@@ -41,7 +41,7 @@ module _ (t : ℕ) where
   unfolding orElse
   by-off c =
       let a = c .before .before .before .before .before .before .before .args in
-      rw (flagged-off (noting (a .skip)) (a .base) (st (a .out .now) (a .n)) ending (last Branch (recordOf (a .left))) (a .s .now) (c .before .before .before .before .read-flag .ensures) (c .before .before .enum-told .given .1)) (told-end _ _ _ _ (c .at-end .ensures))
+      rw (flagged-off keeping (a .base) (st (a .out .now) (a .n)) ending (last Branch (recordOf (a .left))) (a .s .now) (c .before .before .before .before .read-flag .ensures) (c .before .before .enum-told .given .1)) (told-end _ _ _ _ (c .at-end .ensures))
 
   by-on : lts.Need-returns-2 (walk-else-uses t) (walk-else-at t) walk-else.Post
   unfolding orElse
@@ -49,13 +49,13 @@ module _ (t : ℕ) where
       let a = c .before .before .before .before .before .before .before .before .before .before .args in
       let read-flag = c .before .before .before .before .before .before .before .read-flag in
       let enum-told2 = c .before .before .before .before .before .enum-told2 in
-      rw (flagged-on (noting (a .skip)) (a .base) (st (a .out .now) (a .n)) ending (last Branch (recordOf (a .left))) (a .s .now) (read-flag .ensures) (enum-told2 .given .1)) (c .before .before .last .ensures)
+      rw (flagged-on keeping (a .base) (st (a .out .now) (a .n)) ending (last Branch (recordOf (a .left))) (a .s .now) (read-flag .ensures) (enum-told2 .given .1)) (c .before .before .last .ensures)
 
   refused : lts.Need-returns-3 (walk-else-uses t) (walk-else-at t) walk-else.Post
   unfolding orElse
   refused c =
       let a = c .before .before .before .before .before .before .args in
-      flagged-refused (noting (a .skip)) (a .base) (st (a .out .now) (a .n)) ending (last Branch (recordOf (a .left))) (a .s .now) (c .before .flag .given .0 .0) (c .before .before .before .read-flag .ensures) (c .before .flag .given .1)
+      flagged-refused keeping (a .base) (st (a .out .now) (a .n)) ending (last Branch (recordOf (a .left))) (a .s .now) (c .before .flag .given .0 .0) (c .before .before .before .read-flag .ensures) (c .before .flag .given .1)
 
   pub ok : {M : Type 1} → lts.Closed (walk-else-uses t) (walk-else-at t) walk-else.Post M
   ok = lts.spec (walk-else-uses t) (walk-else-at t) walk-else.Post (λ c κs. search needs) (λ c. search needs) sub-off part-off (λ c. search needs) (λ c κs. search needs) (λ c. search needs) sub-on part-on (λ c. search needs) add-on on-requires (λ c. search needs) by-off (λ c. search needs) by-on refused

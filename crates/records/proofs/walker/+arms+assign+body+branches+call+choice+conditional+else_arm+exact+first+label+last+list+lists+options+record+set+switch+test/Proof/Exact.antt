@@ -6,7 +6,7 @@ use lib.ListN.{length}
 use denote.Enum.Declared.{tagOf}
 use Rattle.records.proofs.Walk.{the-type}
 use Rattle.records.specs.Grammar.{recordOf, exact}
-use Rattle.records.specs.Work.{st, noting}
+use Rattle.records.specs.Work.{st, keeping}
 use Rattle.records.proofs.Readings.{exact-step, exact-end}
 use Rattle.records.proofs.Walking.{first-fits, first-on, first-else, not-done, told-end}
 use borrow.Author.Needs.{needs}
@@ -18,7 +18,7 @@ module _ (t : ℕ) where
   at-0 : lts.Need-returns (walk-exact-uses t) (walk-exact-at t) walk-exact.Post
   at-0 c =
       let a = c .before .before .before .before .args in
-      rw (exact-end (a .many) (recordOf (a .left) (a .role)) (a .s .now) (c .before .if1 .taken)) (told-end (noting (a .skip)) (a .base) (st (a .out .now) (a .n)) (a .s .now) (c .at-end .ensures))
+      rw (exact-end (a .many) (recordOf (a .left) (a .role)) (a .s .now) (c .before .if1 .taken)) (told-end keeping (a .base) (st (a .out .now) (a .n)) (a .s .now) (c .at-end .ensures))
 
   sub-many : lts.Need-sub-exact-2 (walk-exact-uses t) (walk-exact-at t) walk-exact.Post
   sub-many c = omega (arith, c .before .before .before .before .before .before .before .before .before .if1 .left)
@@ -31,12 +31,12 @@ module _ (t : ℕ) where
       let a = c .before .before .before .before .before .before .before .before .before .args in
       let if1 = c .before .before .before .before .before .before .if1 in
       let first = c .before .before .before .before .first in
-      rw (exact-step (a .many) (recordOf (a .left) (a .role)) (a .s .now) (if1 .left)) (first-else (noting (a .skip)) (a .base) (st (a .out .now) (a .n)) (recordOf (a .left) (a .role)) (a .s .now) (first .ensures) (exact (a .many - 1) (recordOf (a .left) (a .role))) (not-done (tagOf the-type) (λ m. refl) (first .result) (c .before .match .keys2)))
+      rw (exact-step (a .many) (recordOf (a .left) (a .role)) (a .s .now) (if1 .left)) (first-else keeping (a .base) (st (a .out .now) (a .n)) (recordOf (a .left) (a .role)) (a .s .now) (first .ensures) (exact (a .many - 1) (recordOf (a .left) (a .role))) (not-done (tagOf the-type) (λ m. refl) (first .result) (c .before .match .keys2)))
 
   fits : (c : lts.After-front-span (walk-exact-uses t) (walk-exact-at t) walk-exact.Post) → (5 ≤ c .front-span .result) × (c .front-span .result ≤ length (c .before .before .before .before .before .before .before .before .before .before .before .args .s .now))
   fits c =
       let a = c .before .before .before .before .before .before .before .before .before .before .before .args in
-      first-fits (noting (a .skip)) (a .base) (st (a .out .now) (a .n)) (recordOf (a .left) (a .role)) (a .s .now) (c .before .before .before .before .before .before .first .ensures) (c .front-span .result) (c .before .before .w .given .1) (c .front-span .ensures)
+      first-fits keeping (a .base) (st (a .out .now) (a .n)) (recordOf (a .left) (a .role)) (a .s .now) (c .before .before .before .before .before .before .first .ensures) (c .front-span .result) (c .before .before .w .given .1) (c .front-span .ensures)
 
   sub-rest : lts.Need-sub-exact (walk-exact-uses t) (walk-exact-at t) walk-exact.Post
   sub-rest c = fits c .1
@@ -59,7 +59,7 @@ module _ (t : ℕ) where
       let first = c .before .before .before .before .before .before .before .before .before .before .before .first in
       let w = c .before .before .before .before .before .before .before .w in
       let front-span = c .before .before .before .before .before .front-span in
-      rw (exact-step (a .many) (recordOf (a .left) (a .role)) (a .s .now) (if1 .left), first-on (noting (a .skip)) (a .base) (st (a .out .now) (a .n)) (recordOf (a .left) (a .role)) (a .s .now) (first .ensures) (exact (a .many - 1) (recordOf (a .left) (a .role))) (w .given .0 .0) (front-span .result) (w .given .1) (front-span .ensures)) (c .before .before .exact .ensures)
+      rw (exact-step (a .many) (recordOf (a .left) (a .role)) (a .s .now) (if1 .left), first-on keeping (a .base) (st (a .out .now) (a .n)) (recordOf (a .left) (a .role)) (a .s .now) (first .ensures) (exact (a .many - 1) (recordOf (a .left) (a .role))) (w .given .0 .0) (front-span .result) (w .given .1) (front-span .ensures)) (c .before .before .exact .ensures)
 
   pub ok : {M : Type 1} → lts.Closed (walk-exact-uses t) (walk-exact-at t) walk-exact.Post M
   ok = lts.spec (walk-exact-uses t) (walk-exact-at t) walk-exact.Post (λ c κs. search needs) at-0 first-requires (λ c. search needs) (λ c. search needs) (λ c. search needs) other (λ c κs. search needs) sub-rest part-rest (λ c. search needs) sub-many add-base rest-requires (λ c. search needs) rest

@@ -3,7 +3,7 @@ use Prim.Native.Nat.{ℕ, _+_, _≤_}
 use native.Mathlib.Omega.{arith}
 use lib.ListN.{length}
 use Rattle.records.specs.Grammar.{recordOf, nothing}
-use Rattle.records.specs.Work.{st, noting}
+use Rattle.records.specs.Work.{st, keeping}
 use Rattle.fields.proofs.Laws.{head-fits}
 use Rattle.records.proofs.Walking.{front-cut, front-alone}
 use borrow.Author.Needs.{needs}
@@ -18,7 +18,7 @@ module _ (t : ℕ) where
   cut : lts.Need-returns (walk-first-uses t) (walk-first-at t) walk-first.Post
   cut c =
       let a = c .before .before .before .before .before .args in
-      front-cut (noting (a .skip)) (a .base) (st (a .out .now) (a .n)) (recordOf (a .left) (a .role)) nothing (a .s .now) (c .before .before .read-head .ensures) (c .enum-told .given .1)
+      front-cut keeping (a .base) (st (a .out .now) (a .n)) (recordOf (a .left) (a .role)) nothing (a .s .now) (c .before .before .read-head .ensures) (c .enum-told .given .1)
 
   add-e : lts.Need-add-e (walk-first-uses t) (walk-first-at t) walk-first.Post
   add-e c = omega (arith, fits c)
@@ -33,7 +33,7 @@ module _ (t : ℕ) where
   rest c =
       let a = c .before .before .before .before .before .before .before .before .before .before .before .args in
       let k = c .before .before .before .before .before .before .kind .given in
-      front-alone (noting (a .skip)) (a .base) (st (a .out .now) (a .n)) (recordOf (a .left) (a .role)) (a .s .now) (k .0 .0) (k .0 .1 .0) (c .before .before .before .before .before .before .before .before .read-head .ensures) (k .1) (c .before .before .record .ensures)
+      front-alone keeping (a .base) (st (a .out .now) (a .n)) (recordOf (a .left) (a .role)) (a .s .now) (k .0 .0) (k .0 .1 .0) (c .before .before .before .before .before .before .before .before .read-head .ensures) (k .1) (c .before .before .record .ensures)
 
   pub ok : {M : Type 1} → lts.Closed (walk-first-uses t) (walk-first-at t) walk-first.Post M
   ok = lts.spec (walk-first-uses t) (walk-first-at t) walk-first.Post (λ c κs. search needs) (λ c. search needs) (λ c. search needs) cut add-e (λ c. search needs) (λ c. search needs) part-end piece-requires (λ c. search needs) rest

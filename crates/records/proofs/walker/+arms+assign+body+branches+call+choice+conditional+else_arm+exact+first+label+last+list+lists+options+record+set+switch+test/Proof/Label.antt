@@ -3,7 +3,7 @@ use Prim.Native.Nat.{ℕ, _+_, _≤_}
 use native.Mathlib.Omega.{arith}
 use lib.ListN.{length}
 use Rattle.records.specs.Grammar.{recordOf, options}
-use Rattle.records.specs.Work.{st, noting}
+use Rattle.records.specs.Work.{st, keeping}
 use Rattle.fields.proofs.Laws.{name-fits}
 use Rattle.records.proofs.Walking.{named-refused, named-on}
 use borrow.Author.Needs.{needs}
@@ -18,7 +18,7 @@ module _ (t : ℕ) where
   cut : lts.Need-returns (walk-label-uses t) (walk-label-at t) walk-label.Post
   cut c =
       let a = c .before .before .before .before .before .before .args in
-      named-refused (noting (a .skip)) (a .base) (st (a .out .now) (a .n)) (options (recordOf (a .left))) (a .s .now) (c .before .answer .given .0 .0) (c .before .before .before .read-name .ensures) (c .before .answer .given .1)
+      named-refused keeping (a .base) (st (a .out .now) (a .n)) (options (recordOf (a .left))) (a .s .now) (c .before .answer .given .0 .0) (c .before .before .before .read-name .ensures) (c .before .answer .given .1)
 
   add-e : lts.Need-add-e (walk-label-uses t) (walk-label-at t) walk-label.Post
   add-e c = omega (arith, fits c)
@@ -40,7 +40,7 @@ module _ (t : ℕ) where
       let a = c .before .before .before .before .before .before .before .before .before .before .before .args in
       let read-name = c .before .before .before .before .before .before .before .before .read-name in
       let answer2 = c .before .before .before .before .before .before .answer2 in
-      rw (named-on (noting (a .skip)) (a .base) (st (a .out .now) (a .n)) (options (recordOf (a .left))) (a .s .now) (answer2 .given .0 .0) (read-name .ensures) (answer2 .given .1)) (c .before .before .options .ensures)
+      rw (named-on keeping (a .base) (st (a .out .now) (a .n)) (options (recordOf (a .left))) (a .s .now) (answer2 .given .0 .0) (read-name .ensures) (answer2 .given .1)) (c .before .before .options .ensures)
 
   pub ok : {M : Type 1} → lts.Closed (walk-label-uses t) (walk-label-at t) walk-label.Post M
   ok = lts.spec (walk-label-uses t) (walk-label-at t) walk-label.Post (λ c κs. search needs) (λ c. search needs) (λ c. search needs) add-e sub-rest part-rest (λ c. search needs) add-base rest-requires cut (λ c. search needs) rest

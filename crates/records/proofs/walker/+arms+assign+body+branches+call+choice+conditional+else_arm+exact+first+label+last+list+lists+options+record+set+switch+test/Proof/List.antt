@@ -7,9 +7,10 @@ use denote.Enum.Declared.{tagOf}
 use Rattle.records.proofs.Walk.{the-type}
 use Rattle.records.specs.Work.{run}
 use Rattle.records.specs.Grammar.{recordOf, repeat, front}
-use Rattle.records.specs.Work.{st, noting}
+use Rattle.records.specs.Work.{st, keeping}
 use Rattle.fields.proofs.Laws.{head-fits}
 use Rattle.records.proofs.Readings.{repeat-none, repeat-step, front-local}
+use Rattle.records.proofs.Bare.{bare-on}
 use Rattle.records.proofs.Walking.{front-cut, front-else, front-on, not-done, told-done}
 use borrow.Author.Needs.{needs}
 use Rattle.records.proofs.walker.list.Reads as walk-list
@@ -18,12 +19,12 @@ use Rattle.records.proofs.walker.+arms+assign+body+branches+call+choice
 
 -- what is left stands at `at`, and the run of the whole is the run of what is left
 abbrev Inv : lts.InvT-loop
-Inv s role base left skip out₀ n t₀ at₀ count₀ out t at count =
+Inv s role base left out₀ n t₀ at₀ count₀ out t at count =
     ((at + length t ≡ base + length s) × (length t ≤ length s) × (length out ≡ length out₀))
-    × (run (noting skip) base (st out₀ n) (repeat (front (recordOf left role)) s) ≡ run (noting skip) at (st out count) (repeat (front (recordOf left role)) t))
+    × (run keeping base (st out₀ n) (repeat (front (recordOf left role)) s) ≡ run keeping at (st out count) (repeat (front (recordOf left role)) t))
 
 abbrev μ : lts.MeasureT-loop
-μ s role base left skip out₀ n t₀ at₀ count₀ out t at count = length t
+μ s role base left out₀ n t₀ at₀ count₀ out t at count = length t
 
 module _ (t : ℕ) where
   holds : lts.Need-loop-holds (walk-list-uses t) (walk-list-at t) walk-list.Post Inv μ
@@ -37,60 +38,74 @@ module _ (t : ℕ) where
       let a = c .before .before .before .before .before .before .before .args in
       let l = c .before .before .before .before .loop in
       rw (l .inv .1, repeat-step (front (recordOf (a .left) (a .role))) (front-local (recordOf (a .left) (a .role))) (l .t .now) (c .before .before .before .loop-test .taken))
-      (front-cut (noting (a .skip)) (l .at) (st (l .out) (l .count)) (recordOf (a .left) (a .role)) (repeat (front (recordOf (a .left) (a .role)))) (l .t .now) (c .before .before .read-head .ensures) (c .enum-told .given .1))
+      (front-cut keeping (l .at) (st (l .out) (l .count)) (recordOf (a .left) (a .role)) (repeat (front (recordOf (a .left) (a .role)))) (l .t .now) (c .before .before .read-head .ensures) (c .enum-told .given .1))
 
   add-e : lts.Need-add-e (walk-list-uses t) (walk-list-at t) walk-list.Post Inv μ
   add-e c = omega (arith, fits c)
 
+  bare-at : lts.Need-add-at (walk-list-uses t) (walk-list-at t) walk-list.Post Inv μ
+  bare-at c = omega (arith, fits (c .before .before .before), c .before .before .before .before .before .before .before .before .loop .inv .0, c .before .before .before .before .before .before .before .before .before .before .before .pre .1)
+
+  bare-sub : lts.Need-sub-t (walk-list-uses t) (walk-list-at t) walk-list.Post Inv μ
+  bare-sub c = fits (c .before .before .before)
+
+  bare-part : lts.Need-part-t-start (walk-list-uses t) (walk-list-at t) walk-list.Post Inv μ
+  bare-part c = omega (arith, fits (c .before .before .before))
+
+  bare-less : lts.Need-loop-less (walk-list-uses t) (walk-list-at t) walk-list.Post Inv μ
+  bare-less c = omega (arith, fits (c .before .before .before .before), c .t .given .2)
+
+  bare-again : lts.Need-loop-again (walk-list-uses t) (walk-list-at t) walk-list.Post Inv μ
+  bare-again c =
+      let a = c .before .before .before .before .before .before .before .before .before .before .before .before .args in
+      let l = c .before .before .before .before .before .before .before .before .before .loop in
+      let k = c .before .before .before .before .before .kind .given in (
+        omega (arith, fits (c .before .before .before .before), c .t .given .2, l .inv .0),
+        l .inv .1 ∙ rw (repeat-step (front (recordOf (a .left) (a .role))) (front-local (recordOf (a .left) (a .role))) (l .t .now) (c .before .before .before .before .before .before .before .before .loop-test .taken))
+            (bare-on (l .at) (l .out) (l .count) (c .before .wrapping-add-usize .ensures) (a .left) (a .role) (repeat (front (recordOf (a .left) (a .role)))) (l .t .now) (k .0 .0) (k .0 .1 .0) (c .before .before .before .is-bare .ensures (c .before .before .if1 .taken)) (c .before .before .before .before .before .before .before .read-head .ensures) (k .1)),
+      )
+
   part-end : lts.Need-part-record-end (walk-list-uses t) (walk-list-at t) walk-list.Post Inv μ
-  part-end c = omega (arith, fits c)
+  part-end c = omega (arith, fits (c .before .before))
 
   piece-requires : lts.Need-record-requires (walk-list-uses t) (walk-list-at t) walk-list.Post Inv μ
-  piece-requires c κs =
-      let start = c .before .before .before .before .before .before .before .before .before .before in
-      let loop = c .before .before .before .before .before .before .before .loop in
-      omega (arith, fits (c .before .before), c .before .record-arg .given .2, loop .inv .0, start .pre .0, start .pre .1)
+  piece-requires c κs = omega (arith, fits (c .before .before .before .before), c .before .record-arg .given .2, c .before .before .before .before .before .before .before .before .before .loop .inv .0, c .before .before .before .before .before .before .before .before .before .before .before .before .pre .0, c .before .before .before .before .before .before .before .before .before .before .before .before .pre .1)
 
   other : lts.Need-returns-2 (walk-list-uses t) (walk-list-at t) walk-list.Post Inv μ
   other c =
-      let a = c .before .before .before .before .before .before .before .before .before .before .before .before .before .before .before .args in
-      let l = c .before .before .before .before .before .before .before .before .before .before .before .before .loop in
-      let k = c .before .before .before .before .before .before .before .before .kind .given in
-      rw (l .inv .1, repeat-step (front (recordOf (a .left) (a .role))) (front-local (recordOf (a .left) (a .role))) (l .t .now) (c .before .before .before .before .before .before .before .before .before .before .before .loop-test .taken))
-      (front-else (noting (a .skip)) (l .at) (st (l .out) (l .count)) (recordOf (a .left) (a .role)) (repeat (front (recordOf (a .left) (a .role)))) (l .t .now) (k .0 .0) (k .0 .1 .0)
-      (c .before .before .before .before .before .before .before .before .before .before .read-head .ensures) (k .1) (c .before .before .before .before .record .ensures) (not-done (tagOf the-type) (λ m. refl) (c .before .before .before .before .record .result) (c .before .match2 .keys2)))
-
-  add-at : lts.Need-add-at (walk-list-uses t) (walk-list-at t) walk-list.Post Inv μ
-  add-at c =
-      let start = c .before .before .before .before .before .before .before .before .before .before .before .before .before .before .before .before in
-      let loop = c .before .before .before .before .before .before .before .before .before .before .before .before .before .loop in
-      omega (arith, fits (c .before .before .before .before .before .before .before .before), loop .inv .0, start .pre .1)
-
-  sub-t : lts.Need-sub-t (walk-list-uses t) (walk-list-at t) walk-list.Post Inv μ
-  sub-t c = fits (c .before .before .before .before .before .before .before .before)
-
-  part-t : lts.Need-part-t-start (walk-list-uses t) (walk-list-at t) walk-list.Post Inv μ
-  part-t c = omega (arith, fits (c .before .before .before .before .before .before .before .before))
-
-  less : lts.Need-loop-less (walk-list-uses t) (walk-list-at t) walk-list.Post Inv μ
-  less c = omega (arith, fits (c .before .before .before .before .before .before .before .before .before), c .t .given .2)
-
-  again : lts.Need-loop-again (walk-list-uses t) (walk-list-at t) walk-list.Post Inv μ
-  again c =
       let a = c .before .before .before .before .before .before .before .before .before .before .before .before .before .before .before .before .before .args in
       let l = c .before .before .before .before .before .before .before .before .before .before .before .before .before .before .loop in
-      let k = c .before .before .before .before .before .before .before .before .before .before .kind .given in (
-        omega (arith, fits (c .before .before .before .before .before .before .before .before .before), c .t .given .2, l .inv .0, c .before .before .before .before .before .before .record .kept),
-        l .inv .1 ∙ rw (repeat-step (front (recordOf (a .left) (a .role))) (front-local (recordOf (a .left) (a .role))) (l .t .now) (c .before .before .before .before .before .before .before .before .before .before .before .before .before .loop-test .taken))
-            (front-on (noting (a .skip)) (l .at) (st (l .out) (l .count)) (recordOf (a .left) (a .role)) (repeat (front (recordOf (a .left) (a .role)))) (l .t .now) (k .0 .0) (k .0 .1 .0) (c .before .before .w .given .0 .0)
-            (c .before .before .before .before .before .before .before .before .before .before .before .before .read-head .ensures) (k .1) (c .before .before .before .before .before .before .record .ensures) (c .before .before .w .given .1)),
+      let k = c .before .before .before .before .before .before .before .before .before .before .kind .given in
+      rw (l .inv .1, repeat-step (front (recordOf (a .left) (a .role))) (front-local (recordOf (a .left) (a .role))) (l .t .now) (c .before .before .before .before .before .before .before .before .before .before .before .before .before .loop-test .taken))
+      (front-else keeping (l .at) (st (l .out) (l .count)) (recordOf (a .left) (a .role)) (repeat (front (recordOf (a .left) (a .role)))) (l .t .now) (k .0 .0) (k .0 .1 .0) (c .before .before .before .before .before .before .before .before .before .before .before .before .read-head .ensures) (k .1) (c .before .before .before .before .record .ensures) (not-done (tagOf the-type) (λ m. refl) (c .before .before .before .before .record .result) (c .before .match2 .keys2)))
+
+  add-at : lts.Need-add-at-2 (walk-list-uses t) (walk-list-at t) walk-list.Post Inv μ
+  add-at c = omega (arith, fits (c .before .before .before .before .before .before .before .before .before .before), c .before .before .before .before .before .before .before .before .before .before .before .before .before .before .before .loop .inv .0, c .before .before .before .before .before .before .before .before .before .before .before .before .before .before .before .before .before .before .pre .1)
+
+  sub-t : lts.Need-sub-t-2 (walk-list-uses t) (walk-list-at t) walk-list.Post Inv μ
+  sub-t c = fits (c .before .before .before .before .before .before .before .before .before .before)
+
+  part-t : lts.Need-part-t-start-2 (walk-list-uses t) (walk-list-at t) walk-list.Post Inv μ
+  part-t c = omega (arith, fits (c .before .before .before .before .before .before .before .before .before .before))
+
+  less : lts.Need-loop-less-2 (walk-list-uses t) (walk-list-at t) walk-list.Post Inv μ
+  less c = omega (arith, fits (c .before .before .before .before .before .before .before .before .before .before .before), c .t2 .given .2)
+
+  again : lts.Need-loop-again-2 (walk-list-uses t) (walk-list-at t) walk-list.Post Inv μ
+  again c =
+      let a = c .before .before .before .before .before .before .before .before .before .before .before .before .before .before .before .before .before .before .before .args in
+      let l = c .before .before .before .before .before .before .before .before .before .before .before .before .before .before .before .before .loop in
+      let k = c .before .before .before .before .before .before .before .before .before .before .before .before .kind .given in (
+        omega (arith, fits (c .before .before .before .before .before .before .before .before .before .before .before), c .t2 .given .2, l .inv .0, c .before .before .before .before .before .before .record .kept),
+        l .inv .1 ∙ rw (repeat-step (front (recordOf (a .left) (a .role))) (front-local (recordOf (a .left) (a .role))) (l .t .now) (c .before .before .before .before .before .before .before .before .before .before .before .before .before .before .before .loop-test .taken))
+            (front-on keeping (l .at) (st (l .out) (l .count)) (recordOf (a .left) (a .role)) (repeat (front (recordOf (a .left) (a .role)))) (l .t .now) (k .0 .0) (k .0 .1 .0) (c .before .before .w .given .0 .0) (c .before .before .before .before .before .before .before .before .before .before .before .before .before .before .read-head .ensures) (k .1) (c .before .before .before .before .before .before .record .ensures) (c .before .before .w .given .1)),
       )
 
   finished : lts.Need-returns-3 (walk-list-uses t) (walk-list-at t) walk-list.Post Inv μ
   finished c =
       let a = c .before .before .before .before .args in
       let l = c .before .loop in
-      rw (l .inv .1) (told-done (noting (a .skip)) (l .at) (st (l .out) (l .count)) (repeat (front (recordOf (a .left) (a .role))) (l .t .now)) (repeat-none (front (recordOf (a .left) (a .role))) (l .t .now) (c .loop-test .left)))
+      rw (l .inv .1) (told-done keeping (l .at) (st (l .out) (l .count)) (repeat (front (recordOf (a .left) (a .role))) (l .t .now)) (repeat-none (front (recordOf (a .left) (a .role))) (l .t .now) (c .loop-test .left)))
 
   pub ok : {M : Type 1} → lts.Closed (walk-list-uses t) (walk-list-at t) walk-list.Post M
-  ok = lts.spec (walk-list-uses t) (walk-list-at t) walk-list.Post Inv μ holds (λ c κs. search needs) (λ c. search needs) (λ c. search needs) (λ c. search needs) cut add-e (λ c. search needs) (λ c. search needs) part-end piece-requires (λ c. search needs) (λ c. search needs) (λ c. search needs) other add-at sub-t part-t (λ c. search needs) less again (λ c. search needs) finished
+  ok = lts.spec (walk-list-uses t) (walk-list-at t) walk-list.Post Inv μ holds (λ c κs. search needs) (λ c. search needs) (λ c. search needs) (λ c. search needs) cut add-e (λ c κs. search needs) (λ c κs. search needs) bare-at bare-sub bare-part (λ c. search needs) bare-less bare-again (λ c. search needs) (λ c. search needs) part-end piece-requires (λ c. search needs) (λ c. search needs) (λ c. search needs) other add-at sub-t part-t (λ c. search needs) less again (λ c. search needs) finished

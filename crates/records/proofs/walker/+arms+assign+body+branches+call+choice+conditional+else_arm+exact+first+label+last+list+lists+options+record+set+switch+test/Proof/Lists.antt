@@ -8,7 +8,7 @@ use Rattle.records.proofs.Walk.{the-type}
 use Rattle.fields.specs.declared.Role.the-variants.{Node}
 use Rattle.records.specs.Work.{run}
 use Rattle.records.specs.Grammar.{recordOf, repeat, listed}
-use Rattle.records.specs.Work.{st, noting}
+use Rattle.records.specs.Work.{st, keeping}
 use Rattle.fields.proofs.Laws.{list-fits}
 use Rattle.records.proofs.Readings.{repeat-none, repeat-step, listed-local}
 use Rattle.records.proofs.Walking.{listed-cut, listed-else, listed-on, not-done, told-done}
@@ -19,12 +19,12 @@ use Rattle.records.proofs.walker.+arms+assign+body+branches+call+choice
 
 -- what is left stands at `at`, and the run of the whole is the run of what is left
 abbrev Inv : lts.InvT-loop
-Inv s base left skip out₀ n t₀ at₀ count₀ out t at count =
+Inv s base left out₀ n t₀ at₀ count₀ out t at count =
     ((at + length t ≡ base + length s) × (length t ≤ length s) × (length out ≡ length out₀))
-    × (run (noting skip) base (st out₀ n) (repeat (listed (recordOf left Node)) s) ≡ run (noting skip) at (st out count) (repeat (listed (recordOf left Node)) t))
+    × (run keeping base (st out₀ n) (repeat (listed (recordOf left Node)) s) ≡ run keeping at (st out count) (repeat (listed (recordOf left Node)) t))
 
 abbrev μ : lts.MeasureT-loop
-μ s base left skip out₀ n t₀ at₀ count₀ out t at count = length t
+μ s base left out₀ n t₀ at₀ count₀ out t at count = length t
 
 module _ (t : ℕ) where
   holds : lts.Need-loop-holds (walk-lists-uses t) (walk-lists-at t) walk-lists.Post Inv μ
@@ -38,7 +38,7 @@ module _ (t : ℕ) where
       let a = c .before .before .before .before .before .before .before .args in
       let l = c .before .before .before .before .loop in
       rw (l .inv .1, repeat-step (listed (recordOf (a .left) Node)) (listed-local (recordOf (a .left) Node)) (l .t .now) (c .before .before .before .loop-test .taken))
-      (listed-cut (noting (a .skip)) (l .at) (st (l .out) (l .count)) (recordOf (a .left) Node) (repeat (listed (recordOf (a .left) Node))) (l .t .now) (c .before .before .read-list .ensures) (c .enum-told .given .1))
+      (listed-cut keeping (l .at) (st (l .out) (l .count)) (recordOf (a .left) Node) (repeat (listed (recordOf (a .left) Node))) (l .t .now) (c .before .before .read-list .ensures) (c .enum-told .given .1))
 
   add-e : lts.Need-add-e (walk-lists-uses t) (walk-lists-at t) walk-lists.Post Inv μ
   add-e c = omega (arith, fits c)
@@ -61,7 +61,7 @@ module _ (t : ℕ) where
       let l = c .before .before .before .before .before .before .before .before .before .before .before .before .loop in
       let k = c .before .before .before .before .before .before .before .before .len .given in
       rw (l .inv .1, repeat-step (listed (recordOf (a .left) Node)) (listed-local (recordOf (a .left) Node)) (l .t .now) (c .before .before .before .before .before .before .before .before .before .before .before .loop-test .taken))
-      (listed-else (noting (a .skip)) (l .at) (st (l .out) (l .count)) (recordOf (a .left) Node) (repeat (listed (recordOf (a .left) Node))) (l .t .now) (k .0 .0)
+      (listed-else keeping (l .at) (st (l .out) (l .count)) (recordOf (a .left) Node) (repeat (listed (recordOf (a .left) Node))) (l .t .now) (k .0 .0)
       (c .before .before .before .before .before .before .before .before .before .before .read-list .ensures) (k .1) (c .before .before .before .before .list .ensures) (not-done (tagOf the-type) (λ m. refl) (c .before .before .before .before .list .result) (c .before .match2 .keys2)))
 
   add-at : lts.Need-add-at (walk-lists-uses t) (walk-lists-at t) walk-lists.Post Inv μ
@@ -86,7 +86,7 @@ module _ (t : ℕ) where
       let k = c .before .before .before .before .before .before .before .before .before .before .len .given in (
         omega (arith, fits (c .before .before .before .before .before .before .before .before .before), c .t .given .2, l .inv .0, c .before .before .before .before .before .before .list .kept),
         l .inv .1 ∙ rw (repeat-step (listed (recordOf (a .left) Node)) (listed-local (recordOf (a .left) Node)) (l .t .now) (c .before .before .before .before .before .before .before .before .before .before .before .before .before .loop-test .taken))
-            (listed-on (noting (a .skip)) (l .at) (st (l .out) (l .count)) (recordOf (a .left) Node) (repeat (listed (recordOf (a .left) Node))) (l .t .now) (k .0 .0) (c .before .before .w .given .0 .0)
+            (listed-on keeping (l .at) (st (l .out) (l .count)) (recordOf (a .left) Node) (repeat (listed (recordOf (a .left) Node))) (l .t .now) (k .0 .0) (c .before .before .w .given .0 .0)
             (c .before .before .before .before .before .before .before .before .before .before .before .before .read-list .ensures) (k .1) (c .before .before .before .before .before .before .list .ensures) (c .before .before .w .given .1)),
       )
 
@@ -94,7 +94,7 @@ module _ (t : ℕ) where
   finished c =
       let a = c .before .before .before .before .args in
       let l = c .before .loop in
-      rw (l .inv .1) (told-done (noting (a .skip)) (l .at) (st (l .out) (l .count)) (repeat (listed (recordOf (a .left) Node)) (l .t .now)) (repeat-none (listed (recordOf (a .left) Node)) (l .t .now) (c .loop-test .left)))
+      rw (l .inv .1) (told-done keeping (l .at) (st (l .out) (l .count)) (repeat (listed (recordOf (a .left) Node)) (l .t .now)) (repeat-none (listed (recordOf (a .left) Node)) (l .t .now) (c .loop-test .left)))
 
   pub ok : {M : Type 1} → lts.Closed (walk-lists-uses t) (walk-lists-at t) walk-lists.Post M
   ok = lts.spec (walk-lists-uses t) (walk-lists-at t) walk-lists.Post Inv μ holds (λ c κs. search needs) (λ c. search needs) (λ c. search needs) (λ c. search needs) cut add-e (λ c. search needs) (λ c. search needs) part-end add-4 piece-requires (λ c. search needs) (λ c. search needs) (λ c. search needs) other add-at sub-t part-t (λ c. search needs) less again (λ c. search needs) finished

@@ -1,7 +1,7 @@
 -- `record`: the kind, the depth, the record noted, the payload. Assumes nothing.
 use Prim.Native.Nat.{ℕ}
 use native.Mathlib.Omega.{arith}
-use Rattle.records.specs.Work.{st, noting}
+use Rattle.records.specs.Work.{st, keeping}
 use Rattle.records.proofs.Walking.{record-none, record-deep, record-on}
 use borrow.Author.Needs.{needs}
 use Rattle.records.proofs.walker.record.Reads as walk-record
@@ -12,12 +12,12 @@ module _ (t : ℕ) where
   unknown : lts.Need-returns (walk-record-uses t) (walk-record-at t) walk-record.Post
   unknown c =
       let a = c .before .before .before .before .before .args in
-      record-none (noting (a .skip)) (a .base) (st (a .out .now) (a .n)) (a .left) (a .role) (a .kind) (a .s .now) (c .before .before .read-kind .ensures) (c .enum-told .given .1)
+      record-none keeping (a .base) (st (a .out .now) (a .n)) (a .left) (a .role) (a .kind) (a .s .now) (c .before .before .read-kind .ensures) (c .enum-told .given .1)
 
   deep : lts.Need-returns-2 (walk-record-uses t) (walk-record-at t) walk-record.Post
   deep c =
       let a = c .before .before .before .before .before .before .before .args in
-      record-deep (noting (a .skip)) (a .base) (st (a .out .now) (a .n)) (a .left) (a .role) (a .kind) (a .s .now) (c .before .before .shape .given .0 .0) (c .before .before .before .before .read-kind .ensures) (c .before .before .shape .given .1) (c .if1 .taken)
+      record-deep keeping (a .base) (st (a .out .now) (a .n)) (a .left) (a .role) (a .kind) (a .s .now) (c .before .before .shape .given .0 .0) (c .before .before .before .before .read-kind .ensures) (c .before .before .shape .given .1) (c .if1 .taken)
 
   add-5 : lts.Need-add-body (walk-record-uses t) (walk-record-at t) walk-record.Post
   add-5 c = omega (arith, c .before .before .before .before .before .before .before .before .before .before .before .pre .1)
@@ -35,7 +35,7 @@ module _ (t : ℕ) where
       let shape = c .before .before .before .before .before .before .before .before .before .before .shape in
       let if1 = c .before .before .before .before .before .before .before .before .if1 in
       let note = c .before .before .before .before .before .before .note in
-      rw (record-on (noting (a .skip)) (a .base) (st (a .out .now) (a .n)) (a .left) (a .role) (a .kind) (a .s .now) (shape .given .0 .0) (read-kind .ensures) (shape .given .1) (if1 .left) (note .ensures))
+      rw (record-on keeping (a .base) (st (a .out .now) (a .n)) (a .left) (a .role) (a .kind) (a .s .now) (shape .given .0 .0) (read-kind .ensures) (shape .given .1) (if1 .left) (note .ensures))
       (c .before .before .body .ensures)
 
   pub ok : {M : Type 1} → lts.Closed (walk-record-uses t) (walk-record-at t) walk-record.Post M

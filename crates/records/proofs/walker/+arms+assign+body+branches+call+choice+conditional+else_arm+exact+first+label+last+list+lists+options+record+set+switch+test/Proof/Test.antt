@@ -5,7 +5,7 @@ use native.Mathlib.Omega.{arith}
 use lib.ListN.{length}
 use Rattle.fields.specs.declared.Role.the-variants.{Visited}
 use Rattle.fields.proofs.Laws.{on-fits}
-use Rattle.records.specs.Work.{st, noting}
+use Rattle.records.specs.Work.{st, keeping}
 use Rattle.records.specs.Grammar.{recordOf, nothing, front, tested}
 use Rattle.records.proofs.Walking.{flagged-refused, flagged-off, flagged-on, told-done}
 use borrow.Author.Needs.{needs}
@@ -33,7 +33,7 @@ module _ (t : ℕ) where
   unfolding tested
   by-off c =
       let a = c .before .before .before .before .before .args in
-      rw (flagged-off (noting (a .skip)) (a .base) (st (a .out .now) (a .n)) nothing (front (recordOf (a .left) Visited) nothing) (a .s .now) (c .before .before .read-flag .ensures) (c .enum-told .given .1)) (told-done _ _ _ _ refl)
+      rw (flagged-off keeping (a .base) (st (a .out .now) (a .n)) nothing (front (recordOf (a .left) Visited) nothing) (a .s .now) (c .before .before .read-flag .ensures) (c .enum-told .given .1)) (told-done _ _ _ _ refl)
 
   by-on : lts.Need-returns-2 (walk-test-uses t) (walk-test-at t) walk-test.Post
   unfolding tested
@@ -41,13 +41,13 @@ module _ (t : ℕ) where
       let a = c .before .before .before .before .before .before .before .before .before .before .args in
       let read-flag = c .before .before .before .before .before .before .before .read-flag in
       let enum-told2 = c .before .before .before .before .before .enum-told2 in
-      rw (flagged-on (noting (a .skip)) (a .base) (st (a .out .now) (a .n)) nothing (front (recordOf (a .left) Visited) nothing) (a .s .now) (read-flag .ensures) (enum-told2 .given .1)) (c .before .before .first .ensures)
+      rw (flagged-on keeping (a .base) (st (a .out .now) (a .n)) nothing (front (recordOf (a .left) Visited) nothing) (a .s .now) (read-flag .ensures) (enum-told2 .given .1)) (c .before .before .first .ensures)
 
   refused : lts.Need-returns-3 (walk-test-uses t) (walk-test-at t) walk-test.Post
   unfolding tested
   refused c =
       let a = c .before .before .before .before .before .before .args in
-      flagged-refused (noting (a .skip)) (a .base) (st (a .out .now) (a .n)) nothing (front (recordOf (a .left) Visited) nothing) (a .s .now) (c .before .flag .given .0 .0) (c .before .before .before .read-flag .ensures) (c .before .flag .given .1)
+      flagged-refused keeping (a .base) (st (a .out .now) (a .n)) nothing (front (recordOf (a .left) Visited) nothing) (a .s .now) (c .before .flag .given .0 .0) (c .before .before .before .read-flag .ensures) (c .before .flag .given .1)
 
   pub ok : {M : Type 1} → lts.Closed (walk-test-uses t) (walk-test-at t) walk-test.Post M
   ok = lts.spec (walk-test-uses t) (walk-test-at t) walk-test.Post (λ c κs. search needs) (λ c. search needs) (λ c. search needs) sub-on part-on (λ c. search needs) add-on on-requires (λ c. search needs) by-off (λ c. search needs) by-on refused

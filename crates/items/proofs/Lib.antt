@@ -1,0 +1,10 @@
+-- What the proofs of several functions use, and the laws that other crates cite.
+pub mod Parts
+pub mod Sorts
+pub mod Endings
+pub mod Numbered
+pub mod Searching
+pub mod Halves
+pub mod Labels
+pub mod Kept
+pub mod Filled

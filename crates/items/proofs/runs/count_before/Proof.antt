@@ -1,0 +1,54 @@
+-- `items::runs::count_before` meets its contract. The invariant: the count is from low to high. Assumes nothing.
+use Prim.Native.Nat.{_+_, _-_, _/_, _≤_}
+use native.Mathlib.Omega.{arith}
+use borrow.Author.Needs.{needs}
+use lib.ListN.{length}
+use Rattle.items.specs.Runs.{numberBefore}
+use Rattle.items.proofs.Halves.{number-fits, halved-right, halved-left}
+use Rattle.items.proofs.runs.count_before.Statement.{statement}
+use Rattle.items.proofs.runs.count_before.Tie as tie
+
+abbrev Inv-loop : tie.InvT-loop
+Inv-loop kept place low₀ high₀ low high = (low ≤ numberBefore place kept) × (numberBefore place kept ≤ high) × (high ≤ length kept)
+
+abbrev μ-loop : tie.MeasureT-loop
+μ-loop kept place low₀ high₀ low high = high - low
+
+loop-holds : tie.Need-loop-holds Inv-loop μ-loop
+loop-holds c = (omega arith, number-fits _ _, omega arith)
+
+loop-again : tie.Need-loop-again Inv-loop μ-loop
+loop-again c =
+    let start = c .before .before .before .before .before .before in
+    let o = c .before .before .before .before .loop in
+    let right = halved-right (start .args .place) (start .args .kept .now) (o .low + (o .high - o .low) / 2) (start .pre) (omega arith) (c .before .place-in .ensures .0) (c .if1 .taken) in
+    (omega arith, omega arith, omega arith)
+
+loop-again-2 : tie.Need-loop-again-2 Inv-loop μ-loop
+loop-again-2 c =
+    let start = c .before .before .before .before .before .before in
+    let o = c .before .before .before .before .loop in
+    let left = halved-left (start .args .place) (start .args .kept .now) (o .low + (o .high - o .low) / 2) (start .pre) (omega arith) (c .before .place-in .ensures .0) (c .if1 .left) in
+    (omega arith, omega arith, omega arith)
+
+returns : tie.Need-returns Inv-loop μ-loop
+returns c = (omega arith, omega arith)
+
+pub count-before-spec : {M : Type 1} → statement M
+count-before-spec =
+    tie.close
+    (tie.spec
+    Inv-loop
+    μ-loop
+    loop-holds
+    (λ c. omega arith)
+    (λ c. omega arith)
+    (λ c. omega arith)
+    (λ c. omega arith)
+    (λ c κs. search needs)
+    (λ c. omega arith)
+    (λ c. omega arith)
+    loop-again
+    (λ c. omega arith)
+    loop-again-2
+    returns)

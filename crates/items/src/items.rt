@@ -1,0 +1,230 @@
+// What one kept item is to the rules: by its number, and by the file at its place.
+ghost use mathlib.Core.Path.{_≡_};
+ghost use mathlib.Core.List.{List};
+ghost use Prim.Native.Nat.{ℕ, _<_};
+ghost use lib.ListN.{getD, drop};
+ghost use lib.Dec.{eqb};
+ghost use Rattle.fields.specs.Bytes.{pick, listOf};
+ghost use Rattle.records.specs.Items.{Kind, code, flag, nameStart, nameless, unlabelled, spanned, past, choiceBody, endWithDivert, leaving};
+ghost use Rattle.records.specs.Numbers.{placeIn, payloadAt, itemIn};
+use fields::Head;
+use fields::Span;
+use fields::read_head;
+use fields::read_list;
+use names::name_at;
+
+// A number for each sort of item.
+pub const PLAIN: u8 = 0;
+
+pub const TEMP: u8 = 1;
+
+pub const DIVERT: u8 = 2;
+
+pub const TUNNEL: u8 = 3;
+
+pub const THREAD: u8 = 4;
+
+pub const CALL: u8 = 5;
+
+pub const VARIABLE: u8 = 6;
+
+pub const ARGUMENT: u8 = 7;
+
+pub const CHOICE: u8 = 8;
+
+pub const GATHER: u8 = 9;
+
+// The place of the item.
+pub fn place_in(item: u32) -> usize
+    ensures { λ r. ⌜ (r ≡ placeIn item) × ((file : List ℕ) → r ≡ itemIn file item .place) × (r < 1048576) ⌝ }
+{
+    (item % 1048576) as usize
+}
+
+// The sort of the item.
+pub fn sort_in(item: u32) -> u8
+    ensures { λ r. ⌜ ((file : List ℕ) → r ≡ code (itemIn file item .what .kind)) ⌝ }
+{
+    let sort = (item / 1048576 % 16) as u8;
+    if GATHER < sort {
+        return PLAIN;
+    }
+    sort
+}
+
+// The item stands directly in a branch of a conditional or a switch.
+pub fn in_branch(item: u32) -> bool
+    ensures { λ r. ⌜ ((file : List ℕ) → r ≡ itemIn file item .what .branch) ⌝ }
+{
+    item / 1048576 / 16 % 2 == 1
+}
+
+// The name of the item is a label.
+pub fn is_labelled(item: u32) -> bool
+    ensures { λ r. ⌜ ((file : List ℕ) → r ≡ itemIn file item .what .labels) ⌝ }
+{
+    item / 1048576 / 32 == 1
+}
+
+// The byte at an offset, or 0 past the end.
+fn byte_at(s: &[u8], at: usize) -> u8
+    ensures { λ r. ⌜ r ≡ getD (now (s .entry)) at 0 ⌝ }
+{
+    if s.len() <= at {
+        return 0;
+    }
+    s[at]
+}
+
+// What follows the first bytes.
+fn tail<'a>(s: &'a [u8], at: usize) -> &'a [u8]
+    ensures { λ r. ⌜ now r ≡ drop at (now (s .entry)) ⌝ }
+{
+    if s.len() <= at {
+        return &s[s.len()..];
+    }
+    &s[at..]
+}
+
+// The payload of the record whose kind byte stands at the place.
+fn payload_at<'a>(file: &'a [u8], place: usize) -> &'a [u8]
+    ensures { λ r. ⌜ now r ≡ payloadAt (now (file .entry)) place ⌝ }
+{
+    let s = tail(file, place);
+    let h = read_head(s);
+    let Head::Piece(_, n) = h else {
+        return &s[s.len()..];
+    };
+    let e = 5 + n;
+    &s[5..e]
+}
+
+// A flag byte at the front.
+fn is_flagged(s: &[u8]) -> bool
+    ensures { λ r. ⌜ r ≡ flag (now (s .entry)) ⌝ }
+{
+    byte_at(s, 0) == 1
+}
+
+// Where in the payload of an item of the sort its name begins.
+fn name_start(sort: u8) -> usize
+    ensures { λ r. ⌜ ((k : Kind) → sort ≡ code k → r ≡ nameStart k) ⌝ }
+{
+    match sort {
+        TEMP => 1,
+        CHOICE => 1,
+        _ => 0,
+    }
+}
+
+// An item of the sort has no name.
+fn is_nameless(sort: u8, payload: &[u8]) -> bool
+    ensures { λ r. ⌜ ((k : Kind) → sort ≡ code k → r ≡ nameless k (now (payload .entry))) ⌝ }
+{
+    match sort {
+        PLAIN => true,
+        CHOICE => !is_flagged(payload),
+        _ => false,
+    }
+}
+
+// The name of the item: empty where it has none.
+pub fn item_name<'a>(file: &'a [u8], item: u32) -> &'a [u8]
+    ensures { λ r. ⌜ now r ≡ itemIn (now (file .entry)) item .what .name ⌝ }
+{
+    let payload = payload_at(file, place_in(item));
+    let sort = sort_in(item);
+    if is_nameless(sort, payload) {
+        return &payload[payload.len()..];
+    }
+    name_at(payload, name_start(sort))
+}
+
+// The place of the name's count byte.
+pub fn named_at(item: u32) -> usize
+    ensures { λ r. ⌜ ((file : List ℕ) → r ≡ itemIn file item .named) × (r < 1048582) ⌝ }
+{
+    place_in(item) + (5 + name_start(sort_in(item)))
+}
+
+// The last record so far that is no Newline leaves, with one record more.
+fn leaves_after(kind: u8, sofar: bool) -> bool
+    ensures { λ r. ⌜ r ≡ pick (eqb kind 1) sofar (leaving kind) ⌝ }
+{
+    match kind {
+        1 => sofar,
+        3 => true,
+        6 => true,
+        7 => true,
+        11 => true,
+        12 => true,
+        _ => false,
+    }
+}
+
+// The last node that is no Newline is a divert, a tunnel's return or a return.
+fn nodes_end_with_divert(s: &[u8]) -> bool
+    ensures { λ r. ⌜ r ≡ endWithDivert (now (s .entry)) ⌝ }
+{
+    let mut rest = s;
+    let mut leaves = false;
+    loop {
+        let h = read_head(rest);
+        let Head::Piece(kind, n) = h else {
+            return leaves;
+        };
+        leaves = leaves_after(kind, leaves);
+        let e = 5 + n;
+        rest = &rest[e..];
+    }
+}
+
+// The list at the front.
+fn list_inside<'a>(s: &'a [u8]) -> &'a [u8]
+    ensures { λ r. ⌜ now r ≡ spanned (listOf (now (s .entry))) (now (s .entry)) ⌝ }
+{
+    let l = read_list(s);
+    let Span::Bytes(n) = l else {
+        return &s[s.len()..];
+    };
+    let e = 4 + n;
+    &s[4..e]
+}
+
+// What follows the list at the front.
+fn list_behind<'a>(s: &'a [u8]) -> &'a [u8]
+    ensures { λ r. ⌜ now r ≡ past (listOf (now (s .entry))) (now (s .entry)) ⌝ }
+{
+    let l = read_list(s);
+    let Span::Bytes(n) = l else {
+        return &s[s.len()..];
+    };
+    tail(s, 4 + n)
+}
+
+// What follows a choice's flag and label.
+fn label_behind<'a>(payload: &'a [u8]) -> &'a [u8]
+    ensures { λ r. ⌜ now r ≡ unlabelled (now (payload .entry)) ⌝ }
+{
+    if is_flagged(payload) {
+        return tail(payload, 2 + (byte_at(payload, 1) as usize));
+    }
+    tail(payload, 1)
+}
+
+// The body of a choice: its second list.
+fn choice_body<'a>(payload: &'a [u8]) -> &'a [u8]
+    ensures { λ r. ⌜ now r ≡ choiceBody (now (payload .entry)) ⌝ }
+{
+    list_inside(list_behind(label_behind(payload)))
+}
+
+// The item is a choice whose body's last node that is no Newline leaves.
+pub fn choice_has_explicit_divert(file: &[u8], item: u32) -> bool
+    ensures { λ r. ⌜ r ≡ itemIn (now (file .entry)) item .what .leaves ⌝ }
+{
+    if sort_in(item) != CHOICE {
+        return false;
+    }
+    nodes_end_with_divert(choice_body(payload_at(file, place_in(item))))
+}

@@ -1,0 +1,36 @@
+// The items of a body: the run of the kept numbers from one place to another.
+ghost use mathlib.Core.Path.{_≡_};
+ghost use Prim.Native.Nat.{_≤_};
+ghost use lib.ListN.{length};
+ghost use Rattle.records.specs.Numbers.{between};
+ghost use Rattle.items.specs.Bodies.{Rising};
+ghost use Rattle.items.specs.Runs.{numberBefore};
+use crate::items::place_in;
+
+// How many of the numbers have a place before this one: found by halves, since places rise.
+fn count_before(kept: &[u32], place: usize) -> usize
+    requires { ⌜ Rising (now kept) ⌝ }
+    ensures { λ r. ⌜ (r ≡ numberBefore place (now (kept .entry))) × (r ≤ length (now (kept .entry))) ⌝ }
+{
+    let mut low = 0;
+    let mut high = kept.len();
+    while low < high {
+        let middle = low + (high - low) / 2;
+        if place_in(kept[middle]) < place {
+            low = middle + 1;
+        } else {
+            high = middle;
+        }
+    }
+    low
+}
+
+// The numbers of the items from the one place to the other.
+pub fn body_items<'a>(kept: &'a [u32], from: usize, to: usize) -> &'a [u32]
+    requires { ⌜ Rising (now kept) ⌝ }
+    ensures { λ r. ⌜ now r ≡ between from to (now (kept .entry)) ⌝ }
+{
+    let rest = &kept[count_before(kept, from)..];
+    let end = count_before(rest, to);
+    &rest[..end]
+}

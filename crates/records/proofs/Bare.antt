@@ -1,0 +1,69 @@
+-- Records that are nothing but a head, and plain: text and the like. Assumes nothing.
+use mathlib.Core.Path.{_≡_, refl}
+use mathlib.Core.List.{List, []}
+use Prim.Native.Nat.{ℕ, zero, suc, _+_, _-_, _%_, _^_, _<_}
+use native.Mathlib.Omega.{arith}
+use lib.ListN.{length, take, drop}
+use Rattle.fields.specs.declared.Role.{Role}
+use Rattle.fields.specs.declared.Role.the-variants.{Node, Branch, Cond, Visited, Argument, Unvisited}
+use Rattle.fields.specs.declared.Body.the-variants.{Exprs}
+use Rattle.fields.specs.declared.Head.{Head}
+use Rattle.fields.specs.declared.Head.the-variants as head
+use Rattle.fields.specs.Bytes.{headOf}
+use Rattle.fields.specs.Kinds.{kindOf, nodeKind, condKind, exprKind}
+use Rattle.records.specs.Grammar.{Reading, front, recordOf, bodyOf, exact, ending}
+use Rattle.records.specs.Items.{sortOf}
+use Rattle.records.specs.declared.Walk.the-variants as walk
+use Rattle.records.specs.Work.{st, run, keeping, Told, BareKind, Bare}
+use Rattle.records.proofs.Marks.{note-plain}
+use Rattle.records.proofs.Walking.{record-on, told-done, front-on}
+
+-- 1. The kinds
+
+pub bare-node : (kind : ℕ) → kind < 2 → BareKind Node kind
+unfolding kindOf nodeKind sortOf
+bare-node zero p = record { inner = Visited; nothing-inside = refl; is-plain = λ q. refl }
+bare-node (suc zero) p = record { inner = Visited; nothing-inside = refl; is-plain = λ q. refl }
+bare-node (suc (suc k)) p = absurd (omega arith)
+
+pub bare-branch : (kind : ℕ) → kind < 2 → BareKind Branch kind
+unfolding kindOf nodeKind sortOf
+bare-branch zero p = record { inner = Visited; nothing-inside = refl; is-plain = λ q. refl }
+bare-branch (suc zero) p = record { inner = Visited; nothing-inside = refl; is-plain = λ q. refl }
+bare-branch (suc (suc k)) p = absurd (omega arith)
+
+pub bare-cond : (kind : ℕ) → kind < 1 → BareKind Cond kind
+unfolding kindOf condKind sortOf
+bare-cond zero p = record { inner = Visited; nothing-inside = refl; is-plain = λ q. refl }
+bare-cond (suc k) p = absurd (omega arith)
+
+pub bare-visited : (kind : ℕ) → kind < 1 → BareKind Visited kind
+unfolding kindOf exprKind sortOf
+bare-visited zero p = record { inner = Visited; nothing-inside = refl; is-plain = λ q. refl }
+bare-visited (suc k) p = absurd (omega arith)
+
+pub bare-argument : (kind : ℕ) → kind < 1 → BareKind Argument kind
+unfolding kindOf exprKind sortOf
+bare-argument zero p = record { inner = Unvisited; nothing-inside = refl; is-plain = λ q. refl }
+bare-argument (suc k) p = absurd (omega arith)
+
+pub bare-unvisited : (kind : ℕ) → kind < 1 → BareKind Unvisited kind
+unfolding kindOf exprKind sortOf
+bare-unvisited zero p = record { inner = Unvisited; nothing-inside = refl; is-plain = λ q. refl }
+bare-unvisited (suc k) p = absurd (omega arith)
+
+-- 2. A walk over such a record
+
+module _ (b : ℕ) (out : List ℕ) (n : ℕ) {next : ℕ} (more : next ≡ (n + 4294967296) % 2 ^ 64) (left : ℕ) (role : Role) where
+  bare-record : (kind l : ℕ) → Bare role kind l left → Told (run keeping b (st out n) (recordOf left role kind [])) (walk.Done next) out
+  unfolding bodyOf exact ending
+  bare-record kind l h =
+      rw (record-on keeping b (st out n) left role kind [] (Exprs 0 (h .bare .inner)) refl (h .bare .nothing-inside) (h .some-left) (note-plain out n role kind b [] (h .bare .is-plain []) refl more))
+      (told-done keeping (b + 5) (st out next) (bodyOf (Exprs 0 (h .bare .inner)) (recordOf (left - 1)) []) refl)
+
+  none-inside : (l : ℕ) (s : List ℕ) → l ≡ 0 → take (5 + l - 5) (drop 5 s) ≡ []
+  none-inside l s e = rw e
+
+  pub bare-on : (k : Reading) (s : List ℕ) (kind l : ℕ) {r : Head} → Bare role kind l left → r ≡ headOf s → r ≡ head.Piece kind l
+      → run keeping b (st out n) (front (recordOf left role) k s) ≡ run keeping (b + (5 + l)) (st out next) (k (take (length s - (5 + l)) (drop (5 + l) s)))
+  bare-on k s kind l h e q = front-on keeping b (st out n) (recordOf left role) k s kind l next e q (rw (none-inside l s (h .empty)) (bare-record kind l h)) refl

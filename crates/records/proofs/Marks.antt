@@ -1,0 +1,70 @@
+-- The sorts of records as tables, and a record as it is kept. Assumes nothing.
+use mathlib.Core.Path.{_≡_, sym, ap}
+use mathlib.Core.Bool.{Bool, true, false}
+use mathlib.Core.List.{List, [], _∷_}
+use Prim.Native.Nat.{ℕ, _+_, _*_, _%_, _^_, _≤_, _<_}
+use native.Mathlib.Omega.{arith}
+use lib.ListN.{length, getD, set}
+use lib.Seq.{set-out}
+use borrow.Author.Tests.{ne-eqb}
+use Rattle.fields.specs.declared.Role.{Role}
+use Rattle.records.specs.Items.{Kind, plain, temp, divert, tunnel, thread, call, variable, argument, choice, gather, parameter, stitchName, flowStart, code, assigned, nodeSorts, condSorts, exprSorts, argumentSorts, sortOf, labelled, inBranch, whatOf, itemAs, itemOf}
+use Rattle.records.specs.Numbers.{bit, markOf, numberOf}
+use Rattle.records.specs.Work.{st, keep, keeping}
+use Rattle.records.proofs.Tables.{Misses, missed}
+
+-- 1. The tables
+
+-- every other node is plain
+pub node-plain : (payload : List ℕ) (kind : ℕ)
+    → Misses plain ((16, call) ∷ (15, gather) ∷ (14, choice) ∷ (13, assigned payload) ∷ (5, thread) ∷ (4, tunnel) ∷ (3, divert) ∷ []) kind
+    → 0 ≡ code (getD (nodeSorts payload) kind plain)
+node-plain payload kind h = sym (ap code (missed plain 17 ((16, call) ∷ (15, gather) ∷ (14, choice) ∷ (13, assigned payload) ∷ (5, thread) ∷ (4, tunnel) ∷ (3, divert) ∷ []) kind h))
+
+pub cond-plain : (kind : ℕ) → Misses plain ((1, call) ∷ []) kind → 0 ≡ code (getD condSorts kind plain)
+cond-plain kind h = sym (ap code (missed plain 3 ((1, call) ∷ []) kind h))
+
+pub expr-plain : (kind : ℕ) → Misses plain ((5, call) ∷ (1, variable) ∷ []) kind → 0 ≡ code (getD exprSorts kind plain)
+expr-plain kind h = sym (ap code (missed plain 7 ((5, call) ∷ (1, variable) ∷ []) kind h))
+
+pub argument-plain : (kind : ℕ) → Misses plain ((2, argument) ∷ []) kind → 0 ≡ code (getD argumentSorts kind plain)
+argument-plain kind h = sym (ap code (missed plain 3 ((2, argument) ∷ []) kind h))
+
+-- 2. The numbers of sorts and tests are small
+
+pub code-small : (k : Kind) → code k < 16
+code-small plain = omega arith
+code-small temp = omega arith
+code-small divert = omega arith
+code-small tunnel = omega arith
+code-small thread = omega arith
+code-small call = omega arith
+code-small variable = omega arith
+code-small argument = omega arith
+code-small choice = omega arith
+code-small gather = omega arith
+code-small parameter = omega arith
+code-small stitchName = omega arith
+code-small flowStart = omega arith
+
+pub bit-small : (b : Bool) → bit b ≤ 1
+unfolding bit
+bit-small true = omega arith
+bit-small false = omega arith
+
+-- 3. A record, its sort as the code has it: plain, kept, or without a slot
+
+module _ (out : List ℕ) (n : ℕ) (role : Role) (kind place : ℕ) (payload : List ℕ) {sort next : ℕ} (found : sort ≡ code (sortOf role kind payload)) where
+  pub note-plain : sort ≡ 0 → next ≡ (n + 4294967296) % 2 ^ 64 → st out next ≡ keeping (st out n) role kind place payload
+  unfolding keeping keep itemOf itemAs whatOf
+  note-plain z e = rw (← found, z, e)
+
+  module _ (other : sort ≡ 0 → ⊥) (e : next ≡ (n + 4294967297) % 2 ^ 64) where
+    pub note-kept : {branch label : ℕ} → branch ≡ bit (inBranch role) → label ≡ bit (labelled (sortOf role kind payload) payload)
+        → st (set out (n % 4294967296) (place + 1048576 * (sort + 16 * branch + 32 * label))) next ≡ keeping (st out n) role kind place payload
+    unfolding keeping keep itemOf itemAs whatOf numberOf markOf
+    note-kept p q = rw (p, q, ← found, ne-eqb 0 sort (λ z. other (sym z)), e)
+
+    pub note-full : length out ≤ n % 4294967296 → st out next ≡ keeping (st out n) role kind place payload
+    unfolding keeping keep itemOf itemAs whatOf
+    note-full p = rw (← found, ne-eqb 0 sort (λ z. other (sym z)), e, set-out out (n % 4294967296) (numberOf (itemOf (record { role = role; kind = kind; place = place; payload = payload }))) p)
