@@ -4,6 +4,7 @@ mod flat;
 mod functions;
 mod globals;
 mod novel;
+mod plain;
 mod tiny;
 
 use crate::damage::with_wrong_kind;
@@ -30,7 +31,7 @@ const SIZES: &[usize] = &[4096, 65_536, 1_048_576];
 const MORE_SIZES: &[usize] = &[4096, 16_384, 65_536, 262_144, 1_048_576];
 
 /// All families in the order of the report.
-pub const FAMILIES: [Family; 8] = [
+pub const FAMILIES: [Family; 16] = [
     Family {
         title: "novel",
         about: "chapters with scenes, text, choices, conditions, calls and diverts, nearly half of them by short names; accepted",
@@ -79,7 +80,58 @@ pub const FAMILIES: [Family; 8] = [
         sizes: SIZES,
         make: damaged,
     },
+    Family {
+        title: "root only, text",
+        about: "no flows; text in the root, every hundredth record a temp; accepted",
+        sizes: SIZES,
+        make: |size| vec![Sample::of(grown(size, plain::root_of_text))],
+    },
+    Family {
+        title: "root only, temps",
+        about: "no flows; temps in the root, each of another name; accepted",
+        sizes: SIZES,
+        make: |size| vec![Sample::of(grown(size, plain::root_of_temps))],
+    },
+    Family {
+        title: "one long knot, gathers",
+        about: "one knot of gathers, each of another name; accepted",
+        sizes: SIZES,
+        make: |size| vec![Sample::of(grown(size, plain::knot_of_gathers))],
+    },
+    Family {
+        title: "one long knot, temps",
+        about: "one knot of temps, each of another name; accepted",
+        sizes: SIZES,
+        make: |size| vec![Sample::of(grown(size, plain::knot_of_temps))],
+    },
+    Family {
+        title: "lookup in a novel, hit",
+        about: "the last chapter's name looked up in a novel: found",
+        sizes: SIZES,
+        make: |size| vec![hit(grown(size, novel::novel))],
+    },
+    Family {
+        title: "lookup in a novel, miss",
+        about: "a name that leads nowhere looked up in a novel: missing",
+        sizes: SIZES,
+        make: |size| vec![miss(grown(size, novel::novel))],
+    },
+    Family {
+        title: "lookup in text, hit",
+        about: "the knot's name looked up in one knot of text alone: found",
+        sizes: SIZES,
+        make: |size| vec![hit(grown(size, plain::knot_of_text))],
+    },
+    Family {
+        title: "lookup in text, miss",
+        about: "a name that leads nowhere looked up in one knot of text alone: missing",
+        sizes: SIZES,
+        make: |size| vec![miss(grown(size, plain::knot_of_text))],
+    },
 ];
+
+/// A name that leads nowhere in any story.
+const NOWHERE: &str = "nowhere_at_all";
 
 /// The largest story of a family whose file has at most so many bytes.
 fn grown(size: usize, make: impl Fn(usize) -> ParsedStory) -> ParsedStory {
@@ -103,7 +155,7 @@ fn grown(size: usize, make: impl Fn(usize) -> ParsedStory) -> ParsedStory {
 fn broken_late(chapters: usize) -> ParsedStory {
     let mut flows = novel::novel(chapters).flows().to_vec();
     if let Some(last) = flows.last_mut() {
-        last.nodes.push(divert("nowhere_at_all"));
+        last.nodes.push(divert(NOWHERE));
     }
     novel::story_of(novel::opening(), flows)
 }
@@ -111,7 +163,7 @@ fn broken_late(chapters: usize) -> ParsedStory {
 /// A novel whose root starts with a divert that leads nowhere.
 fn broken_early(chapters: usize) -> ParsedStory {
     let flows = novel::novel(chapters).flows().to_vec();
-    let mut root: Vec<Node> = vec![divert("nowhere_at_all")];
+    let mut root: Vec<Node> = vec![divert(NOWHERE)];
     root.extend(novel::opening());
     novel::story_of(root, flows)
 }
@@ -119,35 +171,55 @@ fn broken_early(chapters: usize) -> ParsedStory {
 /// Damaged copies of a novel.
 fn damaged(size: usize) -> Vec<Sample> {
     let whole = Sample::of(grown(size, novel::novel)).file;
-    let copies = [10, 50, 90, 100].map(|hundredths| Sample {
-        file: with_wrong_kind(&whole, hundredths),
-        story: None,
-    });
-    copies.into()
+    let copies = [10, 50, 90, 100].map(|hundredths| with_wrong_kind(&whole, hundredths));
+    copies.map(Sample::damaged).into()
+}
+
+/// A story in which the name of its last flow is looked up.
+fn hit(story: ParsedStory) -> Sample {
+    let last = story.flows().last().map(|flow| flow.name.clone());
+    Sample::lookup(story, &last.expect("the story has a flow"))
+}
+
+/// A story in which a name that leads nowhere is looked up.
+fn miss(story: ParsedStory) -> Sample {
+    Sample::lookup(story, NOWHERE)
 }
 
 #[cfg(test)]
 mod tests {
     use super::*;
     use crate::tasks::{Subject, Task};
-    use qaabireed::Validator;
+    use caller::lent::Lent;
 
-    /// The start of what this check says of a family's first sample at 16 KB.
-    fn verdict(title: &str) -> String {
-        let family = FAMILIES.iter().find(|family| family.title == title);
-        let samples = (family.expect("the family is there").make)(16_384);
-        let answer = Validator::new().check_bytes(&samples[0].file).to_string();
-        answer.split(" at ").next().unwrap_or("").to_string()
+    /// What is said of a family's first sample at 16 KB, without place and text.
+    fn verdict(family: &Family) -> String {
+        let sample = &(family.make)(16_384)[0];
+        let mut lent = Lent::for_files([&sample.file[..]].into_iter());
+        let said = lent.call(&sample.file, sample.target.as_deref());
+        let said = said.to_string();
+        said.split([':', ' ']).take(2).collect::<Vec<_>>().join(" ")
     }
+
+    /// What ends the line on a family, as it is said by the check or the lookup.
+    const ENDS: [(&str, &str); 5] = [
+        ("; accepted", "accepted"),
+        (": found", "entry"),
+        (": missing", "missing"),
+        (": breach 2", "breach 2"),
+        (": refused 5", "refused 5"),
+    ];
 
     #[test]
     fn families_are_what_the_report_says() {
-        for title in ["novel", "functions", "flat knot", "globals"] {
-            assert_eq!(verdict(title), "accepted", "{title}");
+        for family in FAMILIES
+            .iter()
+            .filter(|family| family.title != "tiny stories")
+        {
+            let end = ENDS.iter().find(|(end, _)| family.about.ends_with(end));
+            let (_, said) = end.expect("the line says what is answered");
+            assert!(verdict(family).starts_with(said), "{}", family.title);
         }
-        assert_eq!(verdict("novel, broken late"), "breach 2");
-        assert_eq!(verdict("novel, broken early"), "breach 2");
-        assert!(verdict("damaged files").starts_with("refused 5"));
     }
 
     #[test]

@@ -1,7 +1,9 @@
-//! Measures the original `validate` and this check on the same stories, and reports ratios and growth.
+//! Measures the original `validate` and this check on the same stories, or two archives of it.
 
+mod against;
+mod arguments;
 mod cell;
-mod clock;
+mod child;
 mod damage;
 mod families;
 mod measure;
@@ -9,23 +11,21 @@ mod report;
 mod sample;
 mod tasks;
 
+use arguments::Request;
 use cell::{Cell, LIMIT};
 use families::FAMILIES;
 use std::io::Write;
 use std::process::ExitCode;
+use tasks::Subject;
 
-/// Measures everything and prints the report, or measures the one cell that is named.
+/// Does what the arguments ask for.
 fn main() -> ExitCode {
     let arguments: Vec<String> = std::env::args().skip(1).collect();
-    let done = match arguments.iter().map(String::as_str).collect::<Vec<_>>()[..] {
-        [] => report_all(None),
-        ["--write", path] => report_all(Some(path)),
-        ["cell", family, size] => match (family.parse(), size.parse()) {
-            (Ok(family), Ok(size)) => cell::tell(family, size),
-            _ => Err("usage: bench cell FAMILY SIZE".to_string()),
-        },
-        _ => Err("usage: bench [--write PATH]".to_string()),
-    };
+    let done = arguments::request(&arguments).and_then(|request| match request {
+        Request::Report { path } => report_all(path.as_deref()),
+        Request::Against { programs } => against::compare(&programs),
+        Request::Cell { family, size } => cell::tell(family, size),
+    });
     match done {
         Ok(()) => ExitCode::SUCCESS,
         Err(line) => {
@@ -41,7 +41,12 @@ fn report_all(path: Option<&str>) -> Result<(), String> {
     for (number, family) in FAMILIES.iter().enumerate() {
         for size in family.sizes {
             eprintln!("{} at {}", family.title, report::size_shown(*size));
-            cells.push(cell::measured(number, *size, LIMIT)?);
+            let cell = cell::measured(number, *size, LIMIT)?;
+            let stopped = cell.time(Subject::Check).is_none();
+            cells.push(cell);
+            if stopped {
+                break;
+            }
         }
     }
     let report = report::report(&cells);

@@ -1,15 +1,13 @@
 //! Measures one cell: first runs, which must agree, then medians of interleaved rounds.
 
-use crate::clock::thread_time;
 use crate::sample::Sample;
 use crate::tasks::{Subject, Task};
+use caller::clock::thread_time;
+use caller::repeat::{repetitions, time};
 use std::time::Duration;
 
 /// A task whose first run takes longer is not run again.
 pub const ONCE: Duration = Duration::from_secs(20);
-
-/// The least time of one measurement; shorter work is repeated.
-const LEAST: Duration = Duration::from_millis(1);
 
 /// The time for all rounds of a cell, as far as the rounds allow.
 const BUDGET: Duration = Duration::from_secs(2);
@@ -62,22 +60,15 @@ struct Timing<'s> {
 impl Timing<'_> {
     /// One measurement, and how long it took in all.
     fn measure(&mut self) -> Duration {
-        let start = thread_time();
-        for _ in 0..self.repetitions {
-            self.task.run();
-        }
-        let time = thread_time() - start;
-        self.times.push(time / self.repetitions);
-        time
+        let once = time(self.repetitions, || self.task.run());
+        self.times.push(once);
+        once * self.repetitions
     }
 
     /// Repeats short work so often that a measurement is long enough.
     fn set_repetitions(&mut self) {
-        if self.first < LEAST {
-            self.measure();
-            let once = self.times.pop().unwrap_or_default();
-            let once = once.max(Duration::from_nanos(20));
-            self.repetitions = LEAST.as_nanos().div_ceil(once.as_nanos()).max(1) as u32;
+        if repetitions(self.first) > 1 {
+            self.repetitions = repetitions(time(1, || self.task.run()));
         }
     }
 

@@ -3,12 +3,13 @@
 mod notes;
 mod shown;
 
+use crate::against;
 use crate::cell::{Cell, LIMIT};
 use crate::families::FAMILIES;
 use crate::measure::Timed;
 use crate::tasks::Subject;
-pub use shown::size_shown;
-use shown::{factor, time_shown};
+use shown::factor;
+pub use shown::{ratio_shown, size_shown, time_shown};
 
 /// The whole report as Markdown.
 pub fn report(cells: &[Cell]) -> String {
@@ -18,6 +19,7 @@ pub fn report(cells: &[Cell]) -> String {
         growth(cells),
         notes::notes(cells),
         method(),
+        against::rule(),
         families(),
         times(cells),
     ];
@@ -28,7 +30,7 @@ pub fn report(cells: &[Cell]) -> String {
 const HEAD: &str = "\
 # Benchmarks
 
-The original `validate` (Rust, unchanged) and this check on the same stories. Written by `bench/run`; `bench/run --print` prints it only. What counts are ratios and growth, taken within one run on one machine; times stand at the end, for orientation.
+The original `validate` (Rust, unchanged) and this check on the same stories. Written by `bench/run`; `bench/run --print` prints it only; `bench/run --against ARCHIVE` compares two landings. What counts are ratios and growth, taken within one run on one machine; times stand at the end, for orientation.
 ";
 
 /// The table of ratios.
@@ -47,8 +49,8 @@ This check's time divided by the original's: under 1 this check takes less time.
             cell.family.to_string(),
             size_shown(cell.size),
             cell.files.to_string(),
-            ratio_shown(cell, Subject::Tree),
-            ratio_shown(cell, Subject::Bytes),
+            ratio_to(cell, Subject::Tree),
+            ratio_to(cell, Subject::Bytes),
             spread_shown(cell),
             rounds_shown(cell),
         ];
@@ -58,7 +60,7 @@ This check's time divided by the original's: under 1 this check takes less time.
 }
 
 /// This check's time divided by the original's, or at least what it is over.
-fn ratio_shown(cell: &Cell, to: Subject) -> String {
+fn ratio_to(cell: &Cell, to: Subject) -> String {
     match (cell.time(Subject::Check), cell.time(to)) {
         (Some(check), Some(original)) => factor(ratio(check, original)),
         (None, Some(original)) => {
@@ -72,7 +74,7 @@ fn ratio_shown(cell: &Cell, to: Subject) -> String {
 
 /// One time divided by another.
 fn ratio(one: Timed, other: Timed) -> f64 {
-    one.median.as_secs_f64() / other.median.as_secs_f64()
+    one.median.div_duration_f64(other.median)
 }
 
 /// The larger spread of the two that are compared, in hundredths.
@@ -168,11 +170,13 @@ fn method() -> String {
 ## How it was measured
 
 - Both are built for release: the original by `cargo build --release` (opt-level 3) as part of the bench program, this check as the archive that `rt staticlib qaabireed` writes, called through the Rust crate.
-- **Tree**: `validate` on the parsed story in memory. **Bytes**: the tree is decoded from the file, validated and dropped; the decoder is that of `differential/`, which also notes the place of every field. **This check**: `check` on the file's bytes, which reads and judges them, writes the index and, on a breach, the message.
-- The buffers of this check are lent again and again and not cleared between calls. Building stories, encoding and reading files are not timed.
+- **Tree**: `validate` on the parsed story in memory. **Bytes**: the tree is decoded from the file, validated and dropped. **This check**: `check` on the file's bytes, which reads and judges them, writes the index and, on a breach, the message.
+- The decoder does nothing but decode: it goes through the file once, refuses what cannot be read, and builds the original's tree with its names as strings. It is `decode_only` of `differential/`, the same code that notes the places of all fields for the comparison there, compiled without the notes.
+- In the rows called lookup one target is looked up. **Tree** and **bytes** are then what the original does for that: `ValidationContext::build` on its tree and `check_target`; in the place of this check stands `lookup` on the file's bytes, which reads the whole file and writes the index.
+- The buffers of this check are lent again and again and not cleared between calls; the index has 4 × (L-20) numbers for a file of L bytes. Building stories, encoding and reading files are not timed.
 - Every cell has a process of its own. In first runs all must give the same verdict and text, or the same refusal, on every file.
 - Then they are timed in turn in each round, each round starting with another one; work under 1 ms is repeated until it lasts that long. Times are processor time of the measuring thread, so that other processes on the machine do not count, and medians of the rounds; ± is half the distance of the quartiles, in hundredths of the median, the larger of the two compared.
-- What takes over {once} s in its first run is not run again: it has 1 round. A cell that takes over {limit} s in all is stopped, and what was known by then is reported; a ratio called over something is then that of the time waited by the clock.
+- What takes over {once} s in its first run is not run again: it has 1 round. A cell that takes over {limit} s in all is stopped, and what was known by then is reported; a ratio called over something is then that of the time waited by the clock. Larger sizes of that story are not tried.
 "
     )
 }
@@ -277,6 +281,14 @@ mod tests {
         assert!(report.contains(row), "{report}");
         let row = "| novel | 16 KB | 64 KB | 4.0 | 4.0 | stopped | 1.0 | - |\n";
         assert!(report.contains(row), "{report}");
+    }
+
+    #[test]
+    fn the_page_has_the_text_of_this_program() {
+        let page = include_str!("../../docs/BENCHMARKS.md");
+        for part in [HEAD.to_string(), method(), against::rule(), families()] {
+            assert!(page.contains(&part), "absent: {part}");
+        }
     }
 
     #[test]

@@ -1,10 +1,12 @@
 //! The three things that are timed on the samples of a cell.
 
 use crate::sample::Sample;
-use differential::decode::decode;
-use differential::validator::validate;
-use qaabireed::Answer;
-use qaabireed::layout::{MESSAGE_LENGTH, index_length};
+use caller::lent::{Lent, Said};
+use differential::ast::ParsedStory;
+use differential::decode::decode_only;
+use differential::error::CompilerError;
+use differential::validator::{oracle, validate};
+use qaabireed::{Answer, Found, Lookup};
 use std::hint::black_box;
 
 /// What is timed, in the order of its columns.
@@ -14,7 +16,7 @@ pub enum Subject {
     Tree,
     /// The original from the bytes: decoding and validating.
     Bytes,
-    /// This check.
+    /// This check, or this lookup.
     Check,
 }
 
@@ -41,75 +43,80 @@ impl Subject {
 pub struct Task<'s> {
     subject: Subject,
     samples: &'s [Sample],
-    /// The buffers of this check, lent again and again and never cleared.
-    index: Vec<u32>,
-    message: Vec<u8>,
+    lent: Lent,
+}
+
+/// What a subject answers.
+enum Judged {
+    Original(Result<(), CompilerError>),
+    /// The number by which the original's decoder refuses.
+    Undecoded(u8),
+    Here(Said),
 }
 
 impl<'s> Task<'s> {
     /// A subject on some samples, with buffers for the longest of them.
     pub fn new(subject: Subject, samples: &'s [Sample]) -> Self {
-        let longest = samples.iter().map(|sample| sample.file.len()).max();
+        let files = samples.iter().map(|sample| sample.file.as_slice());
         Task {
             subject,
             samples,
-            index: vec![0; index_length(longest.unwrap_or(0))],
-            message: vec![0; MESSAGE_LENGTH],
+            lent: Lent::for_files(files),
         }
     }
 
     /// One run over all samples.
     pub fn run(&mut self) {
         for sample in self.samples {
-            match self.subject {
-                Subject::Tree => {
-                    let _ = black_box(sample.story.as_ref().map(validate));
-                }
-                Subject::Bytes => {
-                    if let Ok(decoded) = black_box(decode(black_box(&sample.file))) {
-                        let _ = black_box(validate(&decoded.story));
-                    }
-                }
-                Subject::Check => {
-                    black_box(self.check(black_box(&sample.file)));
-                }
-            }
+            black_box(self.judge(black_box(sample)));
         }
     }
 
     /// One run over all samples, with the verdict of each.
     pub fn verdicts(&mut self) -> Vec<String> {
         let samples = self.samples.iter();
-        samples.map(|sample| self.verdict(sample)).collect()
+        let verdicts = samples.map(|sample| said(&self.judge(sample), sample.target.as_deref()));
+        verdicts.collect()
     }
 
-    /// What is said of one sample.
-    fn verdict(&mut self, sample: &Sample) -> String {
-        let judged = match (self.subject, &sample.story) {
-            (Subject::Check, _) => return said(&self.check(&sample.file)),
-            (Subject::Tree, Some(story)) => validate(story),
-            _ => match decode(&sample.file) {
-                Ok(decoded) => validate(&decoded.story),
-                Err(refusal) => return format!("refused {refusal}"),
+    /// What is answered of one sample.
+    fn judge(&mut self, sample: &Sample) -> Judged {
+        let target = sample.target.as_deref();
+        match (self.subject, &sample.story) {
+            (Subject::Check, _) => Judged::Here(self.lent.call(&sample.file, target)),
+            (Subject::Tree, Some(story)) => Judged::Original(original(story, target)),
+            _ => match decode_only(&sample.file) {
+                Ok(story) => Judged::Original(original(&story, target)),
+                Err(refusal) => Judged::Undecoded(refusal),
             },
-        };
-        match judged {
-            Ok(()) => "accepted".to_string(),
-            Err(error) => error.message().to_string(),
         }
-    }
-
-    /// This check of one file.
-    fn check(&mut self, file: &[u8]) -> Answer {
-        qaabireed::check(file, &mut self.index, &mut self.message)
     }
 }
 
-/// This check's answer in the words of the original.
-fn said(answer: &Answer) -> String {
-    match answer {
-        Answer::Accepted { .. } => "accepted".to_string(),
-        Answer::Breach(breach) => breach.to_string(),
-        Answer::Refused(refusal) => format!("refused {}", refusal.number()),
+/// What the original says of a story, or of a target in it.
+fn original(story: &ParsedStory, target: Option<&str>) -> Result<(), CompilerError> {
+    match target {
+        Some(target) => oracle::target(story, target),
+        None => validate(story),
+    }
+}
+
+/// An answer in the words of the original; a target that is found is accepted.
+fn said(judged: &Judged, target: Option<&str>) -> String {
+    use {Answer::*, Judged::*};
+    match judged {
+        Original(Err(error)) => error.message().to_string(),
+        Here(Said::Checked(Breach(breach))) => breach.to_string(),
+        Here(Said::LookedUp(Lookup::Answered { found, .. })) if *found == Found::Missing => {
+            let target = target.unwrap_or_default();
+            format!("Divert target not found: '-> {target}'")
+        }
+        Undecoded(number) => format!("refused {number}"),
+        Here(Said::Checked(Refused(refusal)) | Said::LookedUp(Lookup::Refused(refusal))) => {
+            format!("refused {}", refusal.number())
+        }
+        Original(Ok(())) | Here(Said::Checked(Accepted { .. }) | Said::LookedUp(_)) => {
+            "accepted".to_string()
+        }
     }
 }

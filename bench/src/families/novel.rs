@@ -62,7 +62,7 @@ pub fn opening() -> Vec<Node> {
 }
 
 /// So many lines of text.
-fn lines(count: usize) -> Vec<Node> {
+pub fn lines(count: usize) -> Vec<Node> {
     let line = "The rain had not stopped since they left the harbour behind them.";
     (0..2 * count)
         .map(|half| match half % 2 {

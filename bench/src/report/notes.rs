@@ -96,7 +96,7 @@ fn stopped(cell: &Cell) -> Option<String> {
     let seconds = LIMIT.as_secs();
     (!absent.is_empty()).then(|| {
         format!(
-            "{}: stopped after {seconds} s, so that there is no time for: {}.",
+            "{}: stopped after {seconds} s, so that there is no time for: {}; no larger size was tried.",
             place(cell),
             absent.join(", ")
         )
@@ -158,8 +158,7 @@ mod tests {
         let line = "- novel, 2 KB: run once, since a run takes over 20 s or the cell was stopped: this check.\n";
         assert!(once.contains(line), "{once}");
         let stopped = notes(&[cell(1, 2, Some(2)), cell(2, 4, None)]);
-        let line =
-            "- novel, 2 KB: stopped after 120 s, so that there is no time for: this check.\n";
+        let line = "- novel, 2 KB: stopped after 120 s, so that there is no time for: this check; no larger size was tried.\n";
         assert!(stopped.contains(line), "{stopped}");
     }
 }
