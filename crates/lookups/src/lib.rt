@@ -12,9 +12,11 @@ use fields::Refusal;
 use names::is_reserved;
 use names::passes;
 use searches::is_function_name;
+use story::Opened;
 use story::Sections;
 use story::StoryRead;
 use story::read;
+use story::trailer::read_trailer;
 use symbols::Found;
 use symbols::entries::write_index;
 use symbols::targets::find_ending;
@@ -125,10 +127,14 @@ fn lookup_long(file: &[u8], index: &mut [u32], target: &[u8]) -> LookupAnswer
     lookup_in(file, index, target, &mut items)
 }
 
-// Looks the target up: reads the file, writes the index as a check does, and finds what the target is.
+// Looks the target up: reads the file, writes the index as a check does, and finds what the target is. The trailer is judged before a buffer is made.
 pub fn lookup(file: &[u8], index: &mut [u32], target: &[u8]) -> LookupAnswer
     ensures { λ r. ⌜ Looked (now (file .entry)) (now (index .entry)) (now (target .entry)) r (now (index .exit)) ⌝ }
 {
+    let opened = read_trailer(file);
+    if let Opened::Refused(r) = opened {
+        return LookupAnswer::Refused(r);
+    }
     if file.len() <= 4096 {
         return lookup_short(file, index, target);
     }

@@ -21,7 +21,7 @@ use Rattle.story.specs.declared.StoryRead.the-variants as read
 use Rattle.story.specs.Story.{storyItems}
 use Rattle.story.specs.File.{openedOf, readOf, readAt, readEnded, sectionsRead, storyIn}
 use Rattle.story.specs.Results.{readResultOf, answerOf, readingOf, keptAt, keptRead, ReadAs}
-use Rattle.story.proofs.Opening.{opened-in-order}
+use Rattle.story.proofs.Opening.{opened-in-order, opened-refused}
 use Rattle.story.proofs.Standing.{sections-placed}
 use Rattle.story.proofs.StoryItems.{story-items}
 
@@ -42,8 +42,8 @@ walk-done (refused y) n m p q = let z : _≡_ {A = ℕ} 0 1 = cc in absurd (omeg
 module _ (file before : List ℕ) where
   -- the trailer is refused
   pub trailer-refused : {x : Refusal} {r : Opened} → r ≡ openedOf file → r ≡ opened.Refused x → ReadAs file before (read.Refused x) before
-  unfolding readOf readAt answerOf readingOf readResultOf keptAt keptRead
-  trailer-refused {x} p q = record { answer = rw (← p, q); written = rw (← p, q) (sym (fill-none 0 before)) }
+  unfolding answerOf readingOf readResultOf keptAt keptRead
+  trailer-refused {x} p q = record { answer = rw (opened-refused file p q); written = rw (← p, q) (sym (fill-none 0 before)) }
 
   module _ (c : Sections) {r : Opened} (p : r ≡ openedOf file) (at : r ≡ opened.At c) {w : Walk} {after : List ℕ}
       (told : Told (run keeping 0 (st before 0) (sectionsRead c file)) w after) where

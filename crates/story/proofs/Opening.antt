@@ -7,6 +7,7 @@ use native.Mathlib.Omega.{arith}
 use lib.Dec.{ltb, eqb}
 use lib.ListN.{length, getD}
 use borrow.Author.Tests.{ltb-false}
+use Rattle.fields.specs.declared.Refusal.{Refusal}
 use Rattle.fields.specs.declared.Refusal.the-variants.{Length, Mark, Starts}
 use Rattle.fields.specs.Bytes.{pick}
 use Rattle.fields.proofs.Refusals.{byNumber, refusal-at}
@@ -57,6 +58,11 @@ pub opened-in-order : (s : List ℕ) (c : Sections) {r : Opened} → r ≡ opene
 unfolding openedOf
 opened-in-order s c p q =
     in-order s c (ltb (length s) 20) (ltb 1048576 (length s)) (marked s) (eqb (startAt s 0) 0) (ltb (startAt s 8) (startAt s 4)) (ltb (startAt s 12) (startAt s 8)) (ltb (length s - 20) (startAt s 12)) refl refl refl refl refl (sym p ∙ q)
+
+-- what the trailer refuses is refused
+pub opened-refused : (file : List ℕ) {r : Opened} {x : Refusal} → r ≡ openedOf file → r ≡ opened.Refused x → readOf file ≡ opened.Refused x
+unfolding readOf readAt
+opened-refused file p q = rw (← p, q)
 
 -- 2. The sections
 

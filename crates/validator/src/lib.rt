@@ -13,9 +13,11 @@ use fields::Refusal;
 use messages::write_message;
 use names::name_at;
 use rules::Rule;
+use story::Opened;
 use story::Sections;
 use story::StoryRead;
 use story::read;
+use story::trailer::read_trailer;
 use symbols::entries::write_index;
 use tables::functions::put_functions;
 use tables::hints::put_hints;
@@ -235,10 +237,14 @@ fn check_long(file: &[u8], index: &mut [u32], message: &mut [u8]) -> Answer
     )
 }
 
-// THE CHECK of a file. The index wants three numbers for each byte before the trailer, the message buffer 640 bytes.
+// THE CHECK of a file. The index wants three numbers for each byte before the trailer, the message buffer 640 bytes. The trailer is judged before buffers are made.
 pub fn check(file: &[u8], index: &mut [u32], message: &mut [u8]) -> Answer
     ensures { λ r. ⌜ Checked (now (file .entry)) (now (index .entry)) (now (message .entry)) r (now (index .exit)) (now (message .exit)) ⌝ }
 {
+    let opened = read_trailer(file);
+    if let Opened::Refused(r) = opened {
+        return Answer::Unreadable(r);
+    }
     if file.len() <= 4096 {
         return check_short(file, index, message);
     }
