@@ -21,11 +21,11 @@ use crate::parameters::is_marked;
 use crate::parameters::is_parameter;
 use crate::structure::has_target;
 use crate::structure::is_sort;
-use items::items::ARGUMENT;
-use items::items::CALL;
 use items::items::item_name;
 use names::is_builtin_function;
 use names::passes;
+use records::sorts::ARGUMENT;
+use records::sorts::CALL;
 use rules::Rule;
 use story::Sections;
 

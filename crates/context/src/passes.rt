@@ -33,16 +33,16 @@ use filters::gathers::check_gather_label;
 use filters::gathers::pass_item;
 use filters::temps::validate_temp_name;
 use filters::words::clear_filter;
-use items::items::ARGUMENT;
-use items::items::CALL;
-use items::items::CHOICE;
-use items::items::DIVERT;
-use items::items::GATHER;
-use items::items::TEMP;
-use items::items::VARIABLE;
 use items::items::named_at;
 use items::items::place_in;
 use items::runs::body_items;
+use records::sorts::ARGUMENT;
+use records::sorts::CALL;
+use records::sorts::CHOICE;
+use records::sorts::DIVERT;
+use records::sorts::GATHER;
+use records::sorts::TEMP;
+use records::sorts::VARIABLE;
 use story::Sections;
 
 // The numbers of passes: those of the root and of a flow from 0 on, those of a stitch from 6 on, in the order of the steps.

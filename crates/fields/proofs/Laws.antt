@@ -1,9 +1,8 @@
--- What was read at the front of some bytes lies within them, and parts as the code takes them. Assumes nothing.
-use mathlib.Core.Path.{_≡_, refl, sym, _∙_}
+-- What was read at the front of some bytes lies within them; and the place after it, or the refusal, as the code learns them. Assumes nothing.
+use mathlib.Core.Path.{_≡_, refl, sym, ap, _∙_}
 use mathlib.Core.List.{List}
 use mathlib.Core.Bool.{Bool, true, false}
 use Prim.Native.Nat.{ℕ, suc, _+_, _-_, _≤_, _<_}
-use native.Mathlib.Nat.{add-sub-cancel-left}
 use native.Mathlib.Omega.{arith}
 use lib.Dec.{ltb, eqb}
 use lib.ListN.{length, getD, take, drop, length-take, length-drop}
@@ -12,15 +11,13 @@ use lib.Arith.{lt-of-le-ne}
 use borrow.Author.Tests.{ltb-false, lt-ltb, le-ltb}
 use Rattle.fields.specs.declared.Refusal.{Refusal}
 use Rattle.fields.specs.declared.Refusal.the-variants.{Short, Unknown}
-use Rattle.fields.specs.declared.Head.{Head}
-use Rattle.fields.specs.declared.Head.the-variants as head
-use Rattle.fields.specs.declared.Span.{Span}
-use Rattle.fields.specs.declared.Span.the-variants as span
-use Rattle.fields.specs.declared.NameRead.{NameRead}
-use Rattle.fields.specs.declared.NameRead.the-variants as name
+use Rattle.fields.specs.declared.Reach.{Reach}
+use Rattle.fields.specs.declared.Reach.the-variants as reach
+use Rattle.fields.specs.declared.HeadRead.{HeadRead}
+use Rattle.fields.specs.declared.HeadRead.the-variants as head-read
 use Rattle.fields.specs.declared.FlagRead.{FlagRead}
 use Rattle.fields.specs.declared.FlagRead.the-variants as flag
-use Rattle.fields.specs.Bytes.{pick, le32At, headOf, listOf, nameOf, flagOf, headSpan, testSpanAt, testSpan}
+use Rattle.fields.specs.Bytes.{Head, Span, pick, le32At, headOf, listOf, nameOf, flagOf, spanReach, headRead}
 
 -- w bytes, then the m bytes that they announce: an answer z that is not the refusal x is y, and they fit
 module _ {A : Type 0} (x y z : A) (s : List ℕ) (w m : ℕ) where
@@ -44,54 +41,54 @@ module _ {A : Type 0} (x y : A) (s : List ℕ) (w m : ℕ) where
   counted-whole : w + m ≤ length s → pick (ltb (length s) w) x (pick (ltb (length s - w) m) x y) ≡ y
   counted-whole h = rw (le-ltb (length s) w (omega arith), le-ltb (length s - w) m (omega arith))
 
-pub head-short : (s : List ℕ) → length s < 5 + le32At s 1 → headOf s ≡ head.Cut
+pub head-short : (s : List ℕ) → length s < 5 + le32At s 1 → headOf s ≡ Head.Refused Short
 unfolding headOf
-head-short s h = counted-short head.Cut (head.Piece (getD s 0 0) (le32At s 1)) s 5 (le32At s 1) h
+head-short s h = counted-short (Head.Refused Short) (Head.Piece (getD s 0 0) (le32At s 1)) s 5 (le32At s 1) h
 
-pub head-whole : (s : List ℕ) → 5 + le32At s 1 ≤ length s → headOf s ≡ head.Piece (getD s 0 0) (le32At s 1)
+pub head-whole : (s : List ℕ) → 5 + le32At s 1 ≤ length s → headOf s ≡ Head.Piece (getD s 0 0) (le32At s 1)
 unfolding headOf
-head-whole s h = counted-whole head.Cut (head.Piece (getD s 0 0) (le32At s 1)) s 5 (le32At s 1) h
+head-whole s h = counted-whole (Head.Refused Short) (Head.Piece (getD s 0 0) (le32At s 1)) s 5 (le32At s 1) h
 
-pub list-short : (s : List ℕ) → length s < 4 + le32At s 0 → listOf s ≡ span.Cut
+pub list-short : (s : List ℕ) → length s < 4 + le32At s 0 → listOf s ≡ Span.Refused Short
 unfolding listOf
-list-short s h = counted-short span.Cut (span.Bytes (le32At s 0)) s 4 (le32At s 0) h
+list-short s h = counted-short (Span.Refused Short) (Span.Bytes (le32At s 0)) s 4 (le32At s 0) h
 
-pub list-whole : (s : List ℕ) → 4 + le32At s 0 ≤ length s → listOf s ≡ span.Bytes (le32At s 0)
+pub list-whole : (s : List ℕ) → 4 + le32At s 0 ≤ length s → listOf s ≡ Span.Bytes (le32At s 0)
 unfolding listOf
-list-whole s h = counted-whole span.Cut (span.Bytes (le32At s 0)) s 4 (le32At s 0) h
+list-whole s h = counted-whole (Span.Refused Short) (Span.Bytes (le32At s 0)) s 4 (le32At s 0) h
 
-pub name-short : (s : List ℕ) → length s < 1 + getD s 0 0 → nameOf s ≡ name.Refused Short
+pub name-short : (s : List ℕ) → length s < 1 + getD s 0 0 → nameOf s ≡ Span.Refused Short
 unfolding nameOf
-name-short s h = counted-short (name.Refused Short) (name.Bytes (getD s 0 0)) s 1 (getD s 0 0) h
+name-short s h = counted-short (Span.Refused Short) (Span.Bytes (getD s 0 0)) s 1 (getD s 0 0) h
 
-pub name-whole : (s : List ℕ) → 1 + getD s 0 0 ≤ length s → nameOf s ≡ name.Bytes (getD s 0 0)
+pub name-whole : (s : List ℕ) → 1 + getD s 0 0 ≤ length s → nameOf s ≡ Span.Bytes (getD s 0 0)
 unfolding nameOf
-name-whole s h = counted-whole (name.Refused Short) (name.Bytes (getD s 0 0)) s 1 (getD s 0 0) h
+name-whole s h = counted-whole (Span.Refused Short) (Span.Bytes (getD s 0 0)) s 1 (getD s 0 0) h
 
-head-read : (s : List ℕ) (k n : ℕ) → headOf s ≡ head.Piece k n → (head.Piece (getD s 0 0) (le32At s 1) ≡ head.Piece k n) × (5 + le32At s 1 ≤ length s)
+head-answer : (s : List ℕ) (k n : ℕ) → headOf s ≡ Head.Piece k n → (Head.Piece (getD s 0 0) (le32At s 1) ≡ Head.Piece k n) × (5 + le32At s 1 ≤ length s)
 unfolding headOf
-head-read s k n e =
-    counted head.Cut (head.Piece (getD s 0 0) (le32At s 1)) (head.Piece k n) s 5 (le32At s 1) (λ p. let z : _≡_ {A = ℕ} 0 1 = cc in omega arith) e
+head-answer s k n e =
+    counted (Head.Refused Short) (Head.Piece (getD s 0 0) (le32At s 1)) (Head.Piece k n) s 5 (le32At s 1) (λ p. let z : _≡_ {A = ℕ} 0 1 = cc in omega arith) e
 
-pub head-fits : (s : List ℕ) (k n : ℕ) {r : Head} → r ≡ headOf s → r ≡ head.Piece k n → 5 + n ≤ length s
-head-fits s k n e q = let h = head-read s k n (sym e ∙ q) in let z : le32At s 1 ≡ n = cc (h .0) in omega (arith, h .1)
+pub head-fits : (s : List ℕ) (k n : ℕ) {r : Head} → r ≡ headOf s → r ≡ Head.Piece k n → 5 + n ≤ length s
+head-fits s k n e q = let h = head-answer s k n (sym e ∙ q) in let z : le32At s 1 ≡ n = cc (h .0) in omega (arith, h .1)
 
-pub list-fits : (s : List ℕ) (n : ℕ) {r : Span} → r ≡ listOf s → r ≡ span.Bytes n → 4 + n ≤ length s
+pub list-fits : (s : List ℕ) (n : ℕ) {r : Span} → r ≡ listOf s → r ≡ Span.Bytes n → 4 + n ≤ length s
 unfolding listOf
 list-fits s n e q =
-    let h = counted span.Cut (span.Bytes (le32At s 0)) (span.Bytes n) s 4 (le32At s 0) (λ p. let z : _≡_ {A = ℕ} 0 1 = cc in omega arith) (sym e ∙ q) in
+    let h = counted (Span.Refused Short) (Span.Bytes (le32At s 0)) (Span.Bytes n) s 4 (le32At s 0) (λ p. let z : _≡_ {A = ℕ} 0 1 = cc in omega arith) (sym e ∙ q) in
     let z : le32At s 0 ≡ n = cc (h .0) in omega (arith, h .1)
 
-pub name-fits : (s : List ℕ) (n : ℕ) {r : NameRead} → r ≡ nameOf s → r ≡ name.Bytes n → 1 + n ≤ length s
+pub name-fits : (s : List ℕ) (n : ℕ) {r : Span} → r ≡ nameOf s → r ≡ Span.Bytes n → 1 + n ≤ length s
 unfolding nameOf
 name-fits s n e q =
-    let h = counted (name.Refused Short) (name.Bytes (getD s 0 0)) (name.Bytes n) s 1 (getD s 0 0) (λ p. let z : _≡_ {A = ℕ} 0 1 = cc in omega arith) (sym e ∙ q) in
+    let h = counted (Span.Refused Short) (Span.Bytes (getD s 0 0)) (Span.Bytes n) s 1 (getD s 0 0) (λ p. let z : _≡_ {A = ℕ} 0 1 = cc in omega arith) (sym e ∙ q) in
     let z : getD s 0 0 ≡ n = cc (h .0) in omega (arith, h .1)
 
 -- the head of a record that stands whole in the first n bytes is the head in all bytes
-pub head-take : (n : ℕ) (s : List ℕ) (k m : ℕ) → headOf (take n s) ≡ head.Piece k m → headOf s ≡ head.Piece k m
+pub head-take : (n : ℕ) (s : List ℕ) (k m : ℕ) → headOf (take n s) ≡ Head.Piece k m → headOf s ≡ Head.Piece k m
 head-take n s k m e =
-    let h = head-read (take n s) k m e in
+    let h = head-answer (take n s) k m e in
     let fits : 5 + le32At (take n s) 1 ≤ length (take n s) = h .1 in
     let long : 5 ≤ n = omega (arith, length-take n s) in
     let size : le32At (take n s) 1 ≡ le32At s 1
@@ -103,15 +100,55 @@ head-take n s k m e =
 pub to-end : (a : ℕ) (s : List ℕ) → take (length s - a) (drop a s) ≡ drop a s
 to-end a s = take-all (length s - a) (drop a s) (omega (arith, length-drop a s))
 
--- a part of n bytes after a
-pub part : (a n : ℕ) (s : List ℕ) → take (a + n - a) (drop a s) ≡ take n (drop a s)
-part a n s = rw (add-sub-cancel-left a n)
+-- the place after a list or a name, and the refusal, as the code learns them
+module _ (w : ℕ) (x : Span) {r : Reach} (e : r ≡ spanReach w x) where
+  pub span-to : (to : ℕ) → r ≡ reach.To to → (x ≡ Span.Bytes (to - w)) × (w + (to - w) ≡ to)
+  unfolding spanReach
+  span-to to q = by-span x e
+    where
+      by-span : (y : Span) → r ≡ spanReach w y → (y ≡ Span.Bytes (to - w)) × (w + (to - w) ≡ to)
+      by-span (Span.Bytes n) p = let z : w + n ≡ to = cc in let back : n ≡ to - w = omega (arith, z) in (ap Span.Bytes back, omega (arith, z))
+      by-span (Span.Refused y) p = let z : _≡_ {A = ℕ} 0 1 = cc in absurd (omega arith)
 
--- a record reaches no further than the bytes
-head-span-fits : (s : List ℕ) (h : Head) → h ≡ headOf s → headSpan h ≤ length s
-unfolding headSpan
-head-span-fits s (head.Piece kind n) e = head-fits s kind n e refl
-head-span-fits s head.Cut e = omega arith
+  pub span-refused : (y : Refusal) → r ≡ reach.Refused y → x ≡ Span.Refused y
+  unfolding spanReach
+  span-refused y q = by-span x e
+    where
+      by-span : (z : Span) → r ≡ spanReach w z → z ≡ Span.Refused y
+      by-span (Span.Bytes n) p = let z : _≡_ {A = ℕ} 0 1 = cc in absurd (omega arith)
+      by-span (Span.Refused z) p = ap Span.Refused cc
+
+-- the place after a record, and the refusal, as the code learns them
+module _ (x : Head) {r : HeadRead} (e : r ≡ headRead x) where
+  pub head-to : (kind to : ℕ) → r ≡ head-read.To kind to → (x ≡ Head.Piece kind (to - 5)) × (5 + (to - 5) ≡ to)
+  unfolding headRead
+  head-to kind to q = by-head x e
+    where
+      by-head : (y : Head) → r ≡ headRead y → (y ≡ Head.Piece kind (to - 5)) × (5 + (to - 5) ≡ to)
+      by-head (Head.Piece j n) p =
+          let z : 5 + n ≡ to = cc in
+          let same : j ≡ kind = cc in
+          let back : n ≡ to - 5 = omega (arith, z) in
+          (rw (same, back), omega (arith, z))
+      by-head (Head.Refused y) p = let z : _≡_ {A = ℕ} 0 1 = cc in absurd (omega arith)
+
+  pub head-refused : (y : Refusal) → r ≡ head-read.Refused y → x ≡ Head.Refused y
+  unfolding headRead
+  head-refused y q = by-head x e
+    where
+      by-head : (z : Head) → r ≡ headRead z → z ≡ Head.Refused y
+      by-head (Head.Piece j n) p = let z : _≡_ {A = ℕ} 0 1 = cc in absurd (omega arith)
+      by-head (Head.Refused z) p = ap Head.Refused cc
+
+-- the place after lies within the bytes
+pub name-within : (s : List ℕ) (to : ℕ) {r : Reach} → r ≡ spanReach 1 (nameOf s) → r ≡ reach.To to → (1 ≤ to) × (to ≤ length s)
+name-within s to e q = let h = span-to 1 (nameOf s) e to q in omega (arith, h .1, name-fits s (to - 1) refl (h .0))
+
+pub list-within : (s : List ℕ) (to : ℕ) {r : Reach} → r ≡ spanReach 4 (listOf s) → r ≡ reach.To to → (4 ≤ to) × (to ≤ length s)
+list-within s to e q = let h = span-to 4 (listOf s) e to q in omega (arith, h .1, list-fits s (to - 4) refl (h .0))
+
+pub head-within : (s : List ℕ) (kind to : ℕ) {r : HeadRead} → r ≡ headRead (headOf s) → r ≡ head-read.To kind to → (5 ≤ to) × (to ≤ length s)
+head-within s kind to e q = let h = head-to (headOf s) e kind to q in omega (arith, h .1, head-fits s kind (to - 5) refl (h .0))
 
 -- where there is a flag, there is a byte
 flag-fits : (s : List ℕ) (r : FlagRead) → r ≡ flagOf s → ((x : Refusal) → r ≡ flag.Refused x → ⊥) → 1 ≤ length s
@@ -128,21 +165,6 @@ off-fits s {r} e q = flag-fits s r e (λ x p. let z : _≡_ {A = ℕ} 0 1 = cc i
 
 pub on-fits : (s : List ℕ) {r : FlagRead} → r ≡ flagOf s → r ≡ flag.On → 1 ≤ length s
 on-fits s {r} e q = flag-fits s r e (λ x p. let z : _≡_ {A = ℕ} 0 1 = cc in omega arith)
-
--- the flag and the expression at the front of a branch
-pub test-fits : (s : List ℕ) {r : ℕ} → 0 < length s → r ≡ testSpan s → (0 < r) × (r ≤ length s)
-unfolding testSpanAt
-test-fits s {r} p e = by-flag (flagOf s) e
-  where
-    by-flag : (x : FlagRead) → r ≡ testSpanAt x s → (0 < r) × (r ≤ length s)
-    by-flag flag.Off q = omega arith
-    by-flag flag.On q = omega (arith, head-span-fits (drop 1 s) (headOf (drop 1 s)) refl, length-drop 1 s)
-    by-flag (flag.Refused x) q = omega arith
-
--- as the code finds them, where the flag is on
-pub test-on : (s : List ℕ) {r : FlagRead} {n : ℕ} → r ≡ flagOf s → r ≡ flag.On → n ≡ headSpan (headOf (take (length s - 1) (drop 1 s))) → 1 + n ≡ testSpan s
-unfolding testSpanAt
-test-on s e q h = rw (← e, q, h, to-end 1 s)
 
 -- a number that is not n, and n at least, is more
 pub past : {n k : ℕ} → n ≤ k → (k ≡ n → ⊥) → suc n ≤ k

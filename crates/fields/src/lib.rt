@@ -1,6 +1,6 @@
 // The fields of a story file: numbers, names, the heads of lists and records, and the kinds.
 ghost use mathlib.Core.Path.{_≡_};
-ghost use Rattle.fields.specs.Bytes.{le32, headOf, listOf, nameOf, flagOf, headSpan, testSpan};
+ghost use Rattle.fields.specs.Bytes.{le32, headOf, headRead, listOf, nameOf, spanReach, flagOf};
 ghost use Rattle.fields.specs.Kinds.{exprKind, condKind, nodeKind, kindOf};
 ghost use Rattle.fields.specs.Refusals.{refusalNumber};
 
@@ -14,9 +14,15 @@ pub enum Refusal {
     Deep,
 }
 
-// The name at the front of some bytes: its length, with the place after it one byte more; or the refusal.
-pub enum NameRead {
-    Bytes(usize),
+// The place after a name, a list or several names; or the refusal.
+pub enum Reach {
+    To(usize),
+    Refused(Refusal),
+}
+
+// A record's kind and the place after the record, or the refusal. Its payload stands from 5 to that place.
+pub enum HeadRead {
+    To(u8, usize),
     Refused(Refusal),
 }
 
@@ -25,18 +31,6 @@ pub enum FlagRead {
     Off,
     On,
     Refused(Refusal),
-}
-
-// A list's length, or too few bytes for it.
-pub enum Span {
-    Bytes(usize),
-    Cut,
-}
-
-// A record's kind and its payload's length, or too few bytes for them.
-pub enum Head {
-    Piece(u8, usize),
-    Cut,
 }
 
 // Where a record stands, as far as a rule asks.
@@ -100,46 +94,46 @@ pub fn refusal_number(r: Refusal) -> usize
     }
 }
 
-// The head of the record at the front of s.
-pub fn read_head(s: &[u8]) -> Head
-    ensures { λ r. ⌜ r ≡ headOf (now (s .entry)) ⌝ }
+// The record at the front of s: its kind, and the place after it.
+pub fn read_head(s: &[u8]) -> HeadRead
+    ensures { λ r. ⌜ r ≡ headRead (headOf (now (s .entry))) ⌝ }
 {
     if s.len() < 5 {
-        return Head::Cut;
+        return HeadRead::Refused(Refusal::Short);
     }
     let n = word(s[1], s[2], s[3], s[4]);
     if s.len() - 5 < n {
-        return Head::Cut;
+        return HeadRead::Refused(Refusal::Short);
     }
-    Head::Piece(s[0], n)
+    HeadRead::To(s[0], 5 + n)
 }
 
-// The length of the list at the front of s.
-pub fn read_list(s: &[u8]) -> Span
-    ensures { λ r. ⌜ r ≡ listOf (now (s .entry)) ⌝ }
+// The list, flow or stitch at the front of s, by its length of four bytes: the place after it. Its bytes stand from 4 on.
+pub fn read_list(s: &[u8]) -> Reach
+    ensures { λ r. ⌜ r ≡ spanReach 4 (listOf (now (s .entry))) ⌝ }
 {
     if s.len() < 4 {
-        return Span::Cut;
+        return Reach::Refused(Refusal::Short);
     }
     let n = word(s[0], s[1], s[2], s[3]);
     if s.len() - 4 < n {
-        return Span::Cut;
+        return Reach::Refused(Refusal::Short);
     }
-    Span::Bytes(n)
+    Reach::To(4 + n)
 }
 
-// The name at the front of s.
-pub fn read_name(s: &[u8]) -> NameRead
-    ensures { λ r. ⌜ r ≡ nameOf (now (s .entry)) ⌝ }
+// The name at the front of s: the place after it. Its bytes stand from 1 on.
+pub fn read_name(s: &[u8]) -> Reach
+    ensures { λ r. ⌜ r ≡ spanReach 1 (nameOf (now (s .entry))) ⌝ }
 {
     if s.len() < 1 {
-        return NameRead::Refused(Refusal::Short);
+        return Reach::Refused(Refusal::Short);
     }
     let n = wide(s[0]);
     if s.len() - 1 < n {
-        return NameRead::Refused(Refusal::Short);
+        return Reach::Refused(Refusal::Short);
     }
-    NameRead::Bytes(n)
+    Reach::To(1 + n)
 }
 
 // The flag at the front of s.
@@ -222,28 +216,5 @@ pub fn read_kind(role: Role, kind: u8) -> Kinded
         Role::Visited => expr_kind(kind, Role::Visited),
         Role::Argument => expr_kind(kind, Role::Unvisited),
         Role::Unvisited => expr_kind(kind, Role::Unvisited),
-    }
-}
-
-// How far the record at the front of s reaches.
-pub fn front_span(s: &[u8]) -> usize
-    ensures { λ r. ⌜ r ≡ headSpan (headOf (now (s .entry))) ⌝ }
-{
-    let h = read_head(s);
-    match h {
-        Head::Piece(_, len) => 5 + len,
-        Head::Cut => 0,
-    }
-}
-
-// How far the flag and the expression at the front of a switch's branch reach.
-pub fn test_span(s: &[u8]) -> usize
-    ensures { λ r. ⌜ r ≡ testSpan (now (s .entry)) ⌝ }
-{
-    let flag = read_flag(s);
-    match flag {
-        FlagRead::Off => 1,
-        FlagRead::On => 1 + front_span(&s[1..]),
-        FlagRead::Refused(_) => 1,
     }
 }

@@ -24,10 +24,10 @@ use checks::Judged;
 use checks::ScopeView;
 use checks::labels::is_forbidden;
 use checks::structure::is_sort;
-use items::items::TEMP;
-use items::items::VARIABLE;
 use items::items::item_name;
 use items::runs::body_items;
+use records::sorts::TEMP;
+use records::sorts::VARIABLE;
 use rules::Rule;
 
 // Adds the temps among the items.

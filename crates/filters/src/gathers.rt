@@ -15,10 +15,10 @@ use crate::words::lacks_word;
 use checks::Judged;
 use checks::Slot;
 use checks::structure::is_sort;
-use items::items::GATHER;
 use items::items::item_name;
 use items::named::has_gather_before;
 use items::runs::body_items;
+use records::sorts::GATHER;
 use rules::Rule;
 
 // Adds the name of the item where it is a gather.

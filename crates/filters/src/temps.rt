@@ -15,8 +15,8 @@ use checks::ScopeView;
 use checks::known::is_function;
 use checks::parameters::is_parameter;
 use checks::structure::is_sort;
-use items::items::TEMP;
 use items::items::item_name;
+use records::sorts::TEMP;
 use rules::Rule;
 use story::Sections;
 

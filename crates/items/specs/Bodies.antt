@@ -1,4 +1,4 @@
--- The items of a body, a flow and a stitch, by the numbers that were kept of them. Assumes nothing.
+-- Inner contract. The items of a body, a flow and a stitch, by the numbers that were kept of them. Assumes nothing.
 use Prim.Native.Nat.{ℕ, _≤_}
 use mathlib.Core.Path.{_≡_}
 use mathlib.Core.List.{List, map}

@@ -5,34 +5,18 @@ ghost use Prim.Native.Nat.{ℕ, _<_};
 ghost use lib.ListN.{getD, drop};
 ghost use lib.Dec.{eqb};
 ghost use Rattle.fields.specs.Bytes.{pick, listOf};
-ghost use Rattle.records.specs.Items.{Kind, code, flag, nameStart, nameless, unlabelled, spanned, past, choiceBody, endWithDivert, leaving};
+ghost use Rattle.records.specs.Items.{Kind, code, nameStart, nameless, unlabelled, spanned, past, choiceBody, endWithDivert, leaving};
 ghost use Rattle.records.specs.Numbers.{placeIn, payloadAt, itemIn};
-use fields::Head;
-use fields::Span;
+use fields::HeadRead;
+use fields::Reach;
 use fields::read_head;
 use fields::read_list;
 use names::name_at;
-
-// A number for each sort of item.
-pub const PLAIN: u8 = 0;
-
-pub const TEMP: u8 = 1;
-
-pub const DIVERT: u8 = 2;
-
-pub const TUNNEL: u8 = 3;
-
-pub const THREAD: u8 = 4;
-
-pub const CALL: u8 = 5;
-
-pub const VARIABLE: u8 = 6;
-
-pub const ARGUMENT: u8 = 7;
-
-pub const CHOICE: u8 = 8;
-
-pub const GATHER: u8 = 9;
+use records::sorts::CHOICE;
+use records::sorts::GATHER;
+use records::sorts::PLAIN;
+use records::sorts::TEMP;
+use records::sorts::is_flagged;
 
 // The place of the item.
 pub fn place_in(item: u32) -> usize
@@ -91,19 +75,11 @@ fn payload_at<'a>(file: &'a [u8], place: usize) -> &'a [u8]
     ensures { λ r. ⌜ now r ≡ payloadAt (now (file .entry)) place ⌝ }
 {
     let s = tail(file, place);
-    let h = read_head(s);
-    let Head::Piece(_, n) = h else {
+    let head = read_head(s);
+    let HeadRead::To(_, e) = head else {
         return &s[s.len()..];
     };
-    let e = 5 + n;
     &s[5..e]
-}
-
-// A flag byte at the front.
-fn is_flagged(s: &[u8]) -> bool
-    ensures { λ r. ⌜ r ≡ flag (now (s .entry)) ⌝ }
-{
-    byte_at(s, 0) == 1
 }
 
 // Where in the payload of an item of the sort its name begins.
@@ -169,12 +145,11 @@ fn nodes_end_with_divert(s: &[u8]) -> bool
     let mut rest = s;
     let mut leaves = false;
     loop {
-        let h = read_head(rest);
-        let Head::Piece(kind, n) = h else {
+        let head = read_head(rest);
+        let HeadRead::To(kind, e) = head else {
             return leaves;
         };
         leaves = leaves_after(kind, leaves);
-        let e = 5 + n;
         rest = &rest[e..];
     }
 }
@@ -183,11 +158,10 @@ fn nodes_end_with_divert(s: &[u8]) -> bool
 fn list_inside<'a>(s: &'a [u8]) -> &'a [u8]
     ensures { λ r. ⌜ now r ≡ spanned (listOf (now (s .entry))) (now (s .entry)) ⌝ }
 {
-    let l = read_list(s);
-    let Span::Bytes(n) = l else {
+    let reach = read_list(s);
+    let Reach::To(e) = reach else {
         return &s[s.len()..];
     };
-    let e = 4 + n;
     &s[4..e]
 }
 
@@ -195,11 +169,11 @@ fn list_inside<'a>(s: &'a [u8]) -> &'a [u8]
 fn list_behind<'a>(s: &'a [u8]) -> &'a [u8]
     ensures { λ r. ⌜ now r ≡ past (listOf (now (s .entry))) (now (s .entry)) ⌝ }
 {
-    let l = read_list(s);
-    let Span::Bytes(n) = l else {
+    let reach = read_list(s);
+    let Reach::To(e) = reach else {
         return &s[s.len()..];
     };
-    tail(s, 4 + n)
+    &s[e..]
 }
 
 // What follows a choice's flag and label.

@@ -7,12 +7,12 @@ ghost use Rattle.story.specs.Story.{whats};
 ghost use Rattle.records.specs.Numbers.{itemIn};
 ghost use Rattle.items.specs.Bodies.{itemsAt};
 ghost use Rattle.items.specs.Search.{labelIn, tempIn, gatherAmong, ofSort, bears, foundAmong};
-use crate::items::GATHER;
-use crate::items::TEMP;
 use crate::items::is_labelled;
 use crate::items::item_name;
 use crate::items::sort_in;
 use names::same_name;
+use records::sorts::GATHER;
+use records::sorts::TEMP;
 
 // What is sought: a label, a temp, or the label of a gather.
 pub enum Sought {

@@ -7,9 +7,9 @@ use lib.ListN.{length, take, drop}
 use Rattle.fields.specs.declared.Role.{Role}
 use Rattle.fields.specs.declared.Role.the-variants.{Node, Branch, Cond, Visited, Argument, Unvisited}
 use Rattle.fields.specs.declared.Body.the-variants.{Exprs}
-use Rattle.fields.specs.declared.Head.{Head}
-use Rattle.fields.specs.declared.Head.the-variants as head
-use Rattle.fields.specs.Bytes.{headOf}
+use Rattle.fields.specs.declared.HeadRead.{HeadRead}
+use Rattle.fields.specs.declared.HeadRead.the-variants as head-read
+use Rattle.fields.specs.Bytes.{headOf, headRead}
 use Rattle.fields.specs.Kinds.{kindOf, nodeKind, condKind, exprKind}
 use Rattle.records.specs.Grammar.{Reading, front, recordOf, bodyOf, exact, ending}
 use Rattle.records.specs.Items.{sortOf}
@@ -55,15 +55,15 @@ bare-unvisited (suc k) p = absurd (omega arith)
 -- 2. A walk over such a record
 
 module _ (b : ℕ) (out : List ℕ) (n : ℕ) {next : ℕ} (more : next ≡ (n + 4294967296) % 2 ^ 64) (left : ℕ) (role : Role) where
-  bare-record : (kind l : ℕ) → Bare role kind l left → Told (run keeping b (st out n) (recordOf left role kind [])) (walk.Done next) out
+  bare-record : (kind to : ℕ) → Bare role kind to left → Told (run keeping b (st out n) (recordOf left role kind [])) (walk.Done next) out
   unfolding bodyOf exact ending
-  bare-record kind l h =
+  bare-record kind to h =
       rw (record-on keeping b (st out n) left role kind [] (Exprs 0 (h .bare .inner)) refl (h .bare .nothing-inside) (h .some-left) (note-plain out n role kind b [] (h .bare .is-plain []) refl more))
       (told-done keeping (b + 5) (st out next) (bodyOf (Exprs 0 (h .bare .inner)) (recordOf (left - 1)) []) refl)
 
-  none-inside : (l : ℕ) (s : List ℕ) → l ≡ 0 → take (5 + l - 5) (drop 5 s) ≡ []
-  none-inside l s e = rw e
+  none-inside : (to : ℕ) (s : List ℕ) → to ≡ 5 → take (to - 5) (drop 5 s) ≡ []
+  none-inside to s e = rw e
 
-  pub bare-on : (k : Reading) (s : List ℕ) (kind l : ℕ) {r : Head} → Bare role kind l left → r ≡ headOf s → r ≡ head.Piece kind l
-      → run keeping b (st out n) (front (recordOf left role) k s) ≡ run keeping (b + (5 + l)) (st out next) (k (take (length s - (5 + l)) (drop (5 + l) s)))
-  bare-on k s kind l h e q = front-on keeping b (st out n) (recordOf left role) k s kind l next e q (rw (none-inside l s (h .empty)) (bare-record kind l h)) refl
+  pub bare-on : (k : Reading) (s : List ℕ) (kind to : ℕ) {r : HeadRead} → Bare role kind to left → r ≡ headRead (headOf s) → r ≡ head-read.To kind to
+      → run keeping b (st out n) (front (recordOf left role) k s) ≡ run keeping (b + to) (st out next) (k (take (length s - to) (drop to s)))
+  bare-on k s kind to h e q = front-on keeping b (st out n) (recordOf left role) k s kind to next e q (rw (none-inside to s (h .empty)) (bare-record kind to h)) refl

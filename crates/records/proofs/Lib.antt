@@ -4,6 +4,7 @@ pub mod Readings
 pub mod Tables
 pub mod Marks
 pub mod Walking
+pub mod PiecesRead
 pub mod Bare
 pub mod Places
 pub mod Keeping

@@ -16,17 +16,11 @@ use Rattle.fields.specs.declared.Role.{Role}
 use Rattle.fields.specs.declared.Role.the-variants.{Node, Branch, Cond, Visited}
 use Rattle.fields.specs.declared.Body.{Body}
 use Rattle.fields.specs.declared.Body.the-variants as body
-use Rattle.fields.specs.declared.Head.{Head}
-use Rattle.fields.specs.declared.Head.the-variants as head
-use Rattle.fields.specs.declared.Span.{Span}
-use Rattle.fields.specs.declared.Span.the-variants as span
-use Rattle.fields.specs.declared.NameRead.{NameRead}
-use Rattle.fields.specs.declared.NameRead.the-variants as name
 use Rattle.fields.specs.declared.FlagRead.{FlagRead}
 use Rattle.fields.specs.declared.FlagRead.the-variants as flag
 use Rattle.fields.specs.declared.Kinded.{Kinded}
 use Rattle.fields.specs.declared.Kinded.the-variants as kinded
-use Rattle.fields.specs.Bytes.{pick, headOf, listOf, nameOf, flagOf}
+use Rattle.fields.specs.Bytes.{Head, Span, pick, headOf, listOf, nameOf, flagOf}
 use Rattle.fields.specs.Kinds.{kindOf}
 use Rattle.fields.proofs.Laws.{head-fits, list-fits, name-fits, off-fits, on-fits, head-take}
 use Rattle.names.specs.Words.{Sorted}
@@ -98,7 +92,7 @@ Places k = (s : List ℕ) → Placed s 0 (length s) (k s)
 
 -- those of a record, by its reader
 abbrev PlacesRecord : Reader → Type 0
-PlacesRecord f = (s : List ℕ) (kind n : ℕ) → headOf s ≡ head.Piece kind n → Placed s 0 (5 + n) (f kind (take n (drop 5 s)))
+PlacesRecord f = (s : List ℕ) (kind n : ℕ) → headOf s ≡ Head.Piece kind n → Placed s 0 (5 + n) (f kind (take n (drop 5 s)))
 
 pub rest-placed : (a : ℕ) (s : List ℕ) (k : Reading) → Places k → a ≤ length s → Placed s a (length s) (shift a (k (drop a s)))
 rest-placed a s k h fits =
@@ -115,10 +109,10 @@ unfolding frontAt Placed
 front-places f k g h s = by-head (headOf s) refl
   where
     by-head : (x : Head) → headOf s ≡ x → Placed s 0 (length s) (frontAt x f k s)
-    by-head (head.Piece kind n) e =
+    by-head (Head.Piece kind n) e =
         let fits : 5 + n ≤ length s = head-fits s kind n refl e in
         placed-then s (f kind (take n (drop 5 s))) (shift (5 + n) (k (drop (5 + n) s))) (omega arith) fits (g s kind n e) (rest-placed (5 + n) s k h fits)
-    by-head head.Cut e = tt
+    by-head (Head.Refused x) e = tt
 
 pub ending-places : Places ending
 unfolding ending Placed
@@ -147,20 +141,20 @@ unfolding listedAt Placed
 listed-places f k g h s = by-span (listOf s) refl
   where
     by-span : (x : Span) → listOf s ≡ x → Placed s 0 (length s) (listedAt x f k s)
-    by-span (span.Bytes n) e =
+    by-span (Span.Bytes n) e =
         let fits : 4 + n ≤ length s = list-fits s n refl e in
         let inside = records f (take n (drop 4 s)) in
         placed-then s (shift 4 inside) (shift (4 + n) (k (drop (4 + n) s))) (omega arith) fits
         (placed-wider s (shift 4 inside) (omega arith) (omega arith) (part-placed 4 n s (records f) (records-places f g) fits)) (rest-placed (4 + n) s k h fits)
-    by-span span.Cut e = tt
+    by-span (Span.Refused x) e = tt
 
 pub named-places : (k : Reading) → Places k → Places (named k)
 unfolding namedAt Placed
 named-places k h s = by-name (nameOf s) refl
   where
-    by-name : (x : NameRead) → nameOf s ≡ x → Placed s 0 (length s) (namedAt x k s)
-    by-name (name.Bytes n) e = placed-wider s (shift (1 + n) (k (drop (1 + n) s))) (omega arith) (omega arith) (rest-placed (1 + n) s k h (name-fits s n refl e))
-    by-name (name.Refused r) e = tt
+    by-name : (x : Span) → nameOf s ≡ x → Placed s 0 (length s) (namedAt x k s)
+    by-name (Span.Bytes n) e = placed-wider s (shift (1 + n) (k (drop (1 + n) s))) (omega arith) (omega arith) (rest-placed (1 + n) s k h (name-fits s n refl e))
+    by-name (Span.Refused r) e = tt
 
 pub flagged-places : (j k : Reading) → Places j → Places k → Places (flagged j k)
 unfolding flaggedAt Placed

@@ -6,19 +6,15 @@ use native.Mathlib.Numerals.{sub-one}
 use native.Mathlib.Omega.{arith}
 use lib.ListN.{length, take, drop, length-drop}
 use lib.Seq.{drop-drop}
-use Rattle.fields.specs.declared.Refusal.the-variants.{Short}
 use Rattle.fields.specs.declared.Role.{Role}
 use Rattle.fields.specs.declared.Role.the-variants.{Branch, Visited}
-use Rattle.fields.specs.declared.Head.{Head}
-use Rattle.fields.specs.declared.Head.the-variants as head
-use Rattle.fields.specs.declared.Span.{Span}
-use Rattle.fields.specs.declared.Span.the-variants as span
 use Rattle.fields.specs.declared.FlagRead.{FlagRead}
 use Rattle.fields.specs.declared.FlagRead.the-variants as flag
-use Rattle.fields.specs.Bytes.{headOf, listOf, flagOf, headSpan, testSpanAt, testSpan}
+use Rattle.fields.specs.Bytes.{Head, Span, headOf, listOf, flagOf}
 use Rattle.records.specs.Trace.{done, andThen, shift}
-use Rattle.records.specs.Grammar.{Reading, Reader, frontAt, front, nothing, repeatN, repeat, exact, ending, listedAt, listed, flaggedAt, tested, branch}
-use Rattle.records.proofs.Traces.{shift-then, shift-shift, then-done, done-then, refuse-then, shift-done}
+use Rattle.records.specs.Grammar.{Reading, Reader, frontAt, front, nothing, repeatN, repeat, exact, ending, records, listedAt, listed, flaggedAt, tested, branch}
+use Rattle.records.specs.Work.{headEndOf, headEnd, listEndOf, listEnd, testEndOf, testEnd, branchEnd}
+use Rattle.records.proofs.Traces.{shift-then, shift-shift, then-assoc, then-done, done-then, refuse-then, shift-done}
 
 -- 1. Pieces to the end
 
@@ -31,16 +27,16 @@ unfolding Local frontAt
 front-local f s j k e = by-head (headOf s)
   where
     by-head : (h : Head) → frontAt h f j s ≡ frontAt h f k s
-    by-head (head.Piece kind n) = rw (e (5 + n) (omega arith))
-    by-head head.Cut = refl
+    by-head (Head.Piece kind n) = rw (e (5 + n) (omega arith))
+    by-head (Head.Refused x) = refl
 
 pub listed-local : (f : Reader) → Local (listed f)
 unfolding Local listedAt
 listed-local f s j k e = by-span (listOf s)
   where
     by-span : (h : Span) → listedAt h f j s ≡ listedAt h f k s
-    by-span (span.Bytes n) = rw (e (4 + n) (omega arith))
-    by-span span.Cut = refl
+    by-span (Span.Bytes n) = rw (e (4 + n) (omega arith))
+    by-span (Span.Refused x) = refl
 
 pub branch-local : (f : Role → Reader) → Local (branch f)
 unfolding Local branch tested flaggedAt
@@ -92,20 +88,40 @@ exact-end many f s e = rw e
 
 -- 3. A piece, and what follows it
 
-pub front-then : (f : Reader) (k : Reading) (s : List ℕ) (h : Head) → frontAt h f k s ≡ andThen (frontAt h f nothing s) (shift (headSpan h) (k (drop (headSpan h) s)))
-unfolding frontAt headSpan
-front-then f k s (head.Piece kind n) = rw (shift-done (5 + n), then-done (f kind (take n (drop 5 s))))
-front-then f k s head.Cut = sym (refuse-then Short (shift 0 (k (drop 0 s))))
+pub front-then : (f : Reader) (k : Reading) (s : List ℕ) (h : Head) → frontAt h f k s ≡ andThen (frontAt h f nothing s) (shift (headEndOf h) (k (drop (headEndOf h) s)))
+unfolding frontAt headEndOf
+front-then f k s (Head.Piece kind n) = rw (shift-done (5 + n), then-done (f kind (take n (drop 5 s))))
+front-then f k s (Head.Refused r) = sym (refuse-then r (shift 0 (k (drop 0 s))))
 
--- the flag and the expression of a branch, then the rest
-pub tested-then : (f : Role → Reader) (k : Reading) (s : List ℕ) → tested f k s ≡ andThen (tested f nothing s) (shift (testSpan s) (k (drop (testSpan s) s)))
-unfolding tested flaggedAt testSpanAt
+pub listed-then : (f : Reader) (k : Reading) (s : List ℕ) (x : Span) → listedAt x f k s ≡ andThen (listedAt x f nothing s) (shift (listEndOf x) (k (drop (listEndOf x) s)))
+unfolding listedAt listEndOf
+listed-then f k s (Span.Bytes n) = rw (shift-done (4 + n), then-done (shift 4 (records f (take n (drop 4 s)))))
+listed-then f k s (Span.Refused r) = sym (refuse-then r (shift 0 (k (drop 0 s))))
+
+-- the test of a branch, then the rest
+pub tested-then : (f : Role → Reader) (k : Reading) (s : List ℕ) → tested f k s ≡ andThen (tested f nothing s) (shift (testEnd s) (k (drop (testEnd s) s)))
+unfolding tested flaggedAt testEndOf
 tested-then f k s = by-flag (flagOf s)
   where
     by-flag : (x : FlagRead) → flaggedAt x k (front (f Visited) k) s
-        ≡ andThen (flaggedAt x nothing (front (f Visited) nothing) s) (shift (testSpanAt x s) (k (drop (testSpanAt x s) s)))
+        ≡ andThen (flaggedAt x nothing (front (f Visited) nothing) s) (shift (testEndOf x s) (k (drop (testEndOf x s) s)))
     by-flag flag.Off = rw (shift-done 1) (sym (done-then (shift 1 (k (drop 1 s)))))
     by-flag flag.On =
-        let n = headSpan (headOf (drop 1 s)) in
+        let n = headEnd (drop 1 s) in
         rw (front-then (f Visited) k (drop 1 s) (headOf (drop 1 s)), shift-then 1 (front (f Visited) nothing (drop 1 s)) (shift n (k (drop n (drop 1 s)))), shift-shift 1 n (k (drop n (drop 1 s))), drop-drop n 1 s)
-    by-flag (flag.Refused r) = sym (refuse-then r (shift 1 (k (drop 1 s))))
+    by-flag (flag.Refused r) = sym (refuse-then r (shift 0 (k (drop 0 s))))
+
+-- a branch is its test, then its list and the rest
+pub branch-tested : (f : Role → Reader) (k : Reading) (s : List ℕ) → branch f k s ≡ andThen (tested f nothing s) (shift (testEnd s) (listed (f Branch) k (drop (testEnd s) s)))
+unfolding branch
+branch-tested f k s = tested-then f (listed (f Branch) k) s
+
+pub branch-then : (f : Role → Reader) (k : Reading) (s : List ℕ) → branch f k s ≡ andThen (branch f nothing s) (shift (branchEnd s) (k (drop (branchEnd s) s)))
+branch-then f k s =
+    let t = testEnd s in
+    let rest = drop t s in
+    let l = listEnd rest in
+    let one = tested f nothing s in
+    let two = listed (f Branch) nothing rest in
+    rw (branch-tested f k s, branch-tested f nothing s, listed-then (f Branch) k rest (listOf rest), shift-then t two (shift l (k (drop l rest))), shift-shift t l (k (drop l rest)), drop-drop l t s)
+    (sym (then-assoc one (shift t two) (shift (t + l) (k (drop (t + l) s)))))

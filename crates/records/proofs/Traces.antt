@@ -26,6 +26,12 @@ then-done done = refl
 then-done (refuse r) = refl
 then-done (emit role kind p bs t) = ap (emit role kind p bs) (then-done t)
 
+pub then-assoc : (t u w : Trace) → andThen (andThen t u) w ≡ andThen t (andThen u w)
+unfolding andThen
+then-assoc done u w = refl
+then-assoc (refuse r) u w = refl
+then-assoc (emit role kind p bs t) u w = rw (then-assoc t u w)
+
 pub done-then : (u : Trace) → andThen done u ≡ u
 unfolding andThen
 done-then u = refl

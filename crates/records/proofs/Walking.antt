@@ -1,5 +1,6 @@
 -- The readings as the walk goes through them, the bytes at b and the state s₀. Each law has its facts as the code learns them: what a callee
--- answered and wrote, and the part that it was handed. The run goes on (-on), or it is over. Assumes nothing.
+-- answered and wrote, and the part that it was handed. The run goes on (-on), or is refused at the front (-refused) or inside (-else).
+-- Assumes nothing.
 use mathlib.Core.Path.{_≡_, refl, sym, ap, _∙_}
 use mathlib.Core.List.{List, [], _∷_}
 use Prim.Native.Nat.{ℕ, zero, suc, _+_, _-_, _≤_, _<_}
@@ -11,28 +12,25 @@ use borrow.Author.Tests.{lt-ltb, le-ltb}
 use Rattle.fields.specs.declared.Refusal.{Refusal}
 use Rattle.fields.specs.declared.Refusal.the-variants.{Short, Unknown, Deep}
 use Rattle.fields.specs.declared.Role.{Role}
-use Rattle.fields.specs.declared.Role.the-variants.{Branch}
 use Rattle.fields.specs.declared.Body.{Body}
-use Rattle.fields.specs.declared.Head.{Head}
-use Rattle.fields.specs.declared.Head.the-variants as head
-use Rattle.fields.specs.declared.Span.{Span}
-use Rattle.fields.specs.declared.Span.the-variants as span
-use Rattle.fields.specs.declared.NameRead.{NameRead}
-use Rattle.fields.specs.declared.NameRead.the-variants as name
+use Rattle.fields.specs.declared.Reach.{Reach}
+use Rattle.fields.specs.declared.Reach.the-variants as reach
+use Rattle.fields.specs.declared.HeadRead.{HeadRead}
+use Rattle.fields.specs.declared.HeadRead.the-variants as head-read
 use Rattle.fields.specs.declared.FlagRead.{FlagRead}
 use Rattle.fields.specs.declared.FlagRead.the-variants as flag
 use Rattle.fields.specs.declared.Kinded.{Kinded}
 use Rattle.fields.specs.declared.Kinded.the-variants as kinded
-use Rattle.fields.specs.Bytes.{headOf, listOf, nameOf, flagOf, headSpan, testSpan}
+use Rattle.fields.specs.Bytes.{headOf, listOf, nameOf, flagOf, spanReach, headRead}
 use Rattle.fields.specs.Kinds.{kindOf}
-use Rattle.fields.proofs.Laws.{head-fits, to-end, part}
+use Rattle.fields.proofs.Laws.{span-to, span-refused, head-to, head-refused, to-end}
 use Rattle.records.specs.declared.Walk.{Walk}
 use Rattle.records.specs.declared.Walk.the-variants as walk
 use Rattle.records.specs.Trace.{Trace, done, refuse, andThen, shift}
-use Rattle.records.specs.Grammar.{Reading, Reader, frontAt, front, nothing, ending, records, listedAt, listed, namedAt, named, flaggedAt, flagged, moded, tested, branch, bodyOf, whole, tooDeep, recordOf}
+use Rattle.records.specs.Grammar.{Reading, Reader, frontAt, front, nothing, ending, records, listedAt, listed, namedAt, named, flaggedAt, flagged, moded, bodyOf, whole, tooDeep, recordOf}
 use Rattle.records.specs.Work.{St, st, Ran, ended, broke, Visitor, bind, run, walkOf, ranOut, Told, endOf}
 use Rattle.records.proofs.Traces.{then-done, shift-done, run-then, run-shift}
-use Rattle.records.proofs.Readings.{front-then, tested-then, repeat-none}
+use Rattle.records.proofs.Readings.{repeat-none}
 
 -- 1. What an answer and what was written say. `x` is the run of a part, and `k` what follows it.
 
@@ -44,14 +42,14 @@ told-ended x {w} {o} {m} h e = by-end x (h .answer) (h .written)
     by-end (ended s) p q = let z : s .n ≡ m = cc in ap ended (λ i. record { out = sym q i; n = z i })
     by-end (broke s r) p q = let z : _≡_ {A = ℕ} 0 1 = cc in absurd (omega arith)
 
-bind-else : (x : Ran St) (k : St → Ran St) {w : Walk} {o : List ℕ} → Told x w o → ((m : ℕ) → w ≡ walk.Done m → ⊥) → Told (bind x k) w o
+bind-else : (x : Ran St) (k : St → Ran St) {w : Walk} {o : List ℕ} → Told x w o → {y : Refusal} → w ≡ walk.Refused y → Told (bind x k) w o
 unfolding bind walkOf ranOut
-bind-else (ended s) k h other = absurd (other (s .n) (h .answer))
-bind-else (broke s r) k h other = record { answer = h .answer; written = h .written }
+bind-else (ended s) k h e = let answer = h .answer in let z : _≡_ {A = ℕ} 0 1 = cc in absurd (omega arith)
+bind-else (broke s r) k h e = record { answer = h .answer; written = h .written }
 
--- the `else` of a `let` for Done: the tag is another's
-pub not-done : (tag : Walk → ℕ) → ((m : ℕ) → tag (walk.Done m) ≡ 0) → (w : Walk) → tag w ≡ 1 → (m : ℕ) → w ≡ walk.Done m → ⊥
-not-done tag z w k m e = omega (arith, z m, ap tag e)
+pub told-done : (v : Visitor St) (b : ℕ) (s₀ : St) (t : Trace) → t ≡ done → Told (run v b s₀ t) (walk.Done (s₀ .n)) (s₀ .out)
+unfolding run walkOf ranOut
+told-done v b s₀ t e = rw e (record { answer = refl; written = refl })
 
 -- 2. The bytes from the front
 
@@ -60,88 +58,77 @@ module _ (v : Visitor St) (b : ℕ) (s₀ : St) where
   unfolding run walkOf ranOut
   told-refused t r e = rw e (record { answer = refl; written = refl })
 
-  pub told-done : (t : Trace) → t ≡ done → Told (run v b s₀ t) (walk.Done (s₀ .n)) (s₀ .out)
-  unfolding run walkOf ranOut
-  told-done t e = rw e (record { answer = refl; written = refl })
-
-  told-done-at : (a : ℕ) (t : Trace) → t ≡ done → Told (run v a s₀ t) (walk.Done (s₀ .n)) (s₀ .out)
-  unfolding run walkOf ranOut
-  told-done-at a t e = rw e (record { answer = refl; written = refl })
-
   -- a piece, then what follows it
   pub then-on : (p q : Trace) (e m : ℕ) {w : Walk} {o : List ℕ} → Told (run v b s₀ p) w o → w ≡ walk.Done m → run v b s₀ (andThen p (shift e q)) ≡ run v (b + e) (st o m) q
   unfolding bind
   then-on p q e m g z = rw (run-then v b s₀ p (shift e q), told-ended (run v b s₀ p) g z) (run-shift v b e (st _ m) q)
 
-  pub then-else : (p q : Trace) {w : Walk} {o : List ℕ} → Told (run v b s₀ p) w o → ((m : ℕ) → w ≡ walk.Done m → ⊥) → Told (run v b s₀ (andThen p q)) w o
-  then-else p q g other = rw (run-then v b s₀ p q) (bind-else (run v b s₀ p) (λ u. run v b u q) g other)
+  pub then-else : (p q : Trace) {w : Walk} {o : List ℕ} → Told (run v b s₀ p) w o → {x : Refusal} → w ≡ walk.Refused x → Told (run v b s₀ (andThen p q)) w o
+  then-else p q g e = rw (run-then v b s₀ p q) (bind-else (run v b s₀ p) (λ u. run v b u q) g e)
 
   -- a record
-  pub front-cut : (f : Reader) (k : Reading) (s : List ℕ) {r : Head} → r ≡ headOf s → r ≡ head.Cut → Told (run v b s₀ (front f k s)) (walk.Refused Short) (s₀ .out)
+  pub front-refused : (f : Reader) (k : Reading) (s : List ℕ) (x : Refusal) {r : HeadRead} → r ≡ headRead (headOf s) → r ≡ head-read.Refused x
+      → Told (run v b s₀ (front f k s)) (walk.Refused x) (s₀ .out)
   unfolding frontAt
-  front-cut f k s e q = told-refused (front f k s) Short (rw (← e, q))
+  front-refused f k s x e q = told-refused (front f k s) x (rw (head-refused (headOf s) e x q))
 
-  pub front-on : (f : Reader) (k : Reading) (s : List ℕ) (kind l m : ℕ) {r : Head} {w : Walk} {o : List ℕ} → r ≡ headOf s → r ≡ head.Piece kind l
-      → Told (run v b s₀ (f kind (take (5 + l - 5) (drop 5 s)))) w o → w ≡ walk.Done m
-      → run v b s₀ (front f k s) ≡ run v (b + (5 + l)) (st o m) (k (take (length s - (5 + l)) (drop (5 + l) s)))
+  front-at : (f : Reader) (k : Reading) (s : List ℕ) (kind to : ℕ) {r : HeadRead} → r ≡ headRead (headOf s) → r ≡ head-read.To kind to
+      → front f k s ≡ andThen (f kind (take (to - 5) (drop 5 s))) (shift to (k (drop to s)))
   unfolding frontAt
-  front-on f k s kind l m e q g z =
-      rw (to-end (5 + l) s, ← e, q) (then-on (f kind (take l (drop 5 s))) (k (drop (5 + l) s)) (5 + l) m (rw (part 5 l s) at g) z)
+  front-at f k s kind to e q = let h = head-to (headOf s) e kind to q in rw (h .0, h .1)
 
-  -- an answer that is not Done is the whole's
-  pub front-else : (f : Reader) (k : Reading) (s : List ℕ) (kind l : ℕ) {r : Head} {w : Walk} {o : List ℕ} → r ≡ headOf s → r ≡ head.Piece kind l
-      → Told (run v b s₀ (f kind (take (5 + l - 5) (drop 5 s)))) w o → ((m : ℕ) → w ≡ walk.Done m → ⊥)
+  pub front-on : (f : Reader) (k : Reading) (s : List ℕ) (kind to m : ℕ) {r : HeadRead} {w : Walk} {o : List ℕ} → r ≡ headRead (headOf s) → r ≡ head-read.To kind to
+      → Told (run v b s₀ (f kind (take (to - 5) (drop 5 s)))) w o → w ≡ walk.Done m
+      → run v b s₀ (front f k s) ≡ run v (b + to) (st o m) (k (take (length s - to) (drop to s)))
+  front-on f k s kind to m e q g z =
+      rw (to-end to s, front-at f k s kind to e q) (then-on (f kind (take (to - 5) (drop 5 s))) (k (drop to s)) to m g z)
+
+  -- a refusal inside it is the whole's
+  pub front-else : (f : Reader) (k : Reading) (s : List ℕ) (kind to : ℕ) {r : HeadRead} {w : Walk} {o : List ℕ} → r ≡ headRead (headOf s) → r ≡ head-read.To kind to
+      → Told (run v b s₀ (f kind (take (to - 5) (drop 5 s)))) w o → {x : Refusal} → w ≡ walk.Refused x
       → Told (run v b s₀ (front f k s)) w o
-  unfolding frontAt
-  front-else f k s kind l e q g other =
-      rw (← e, q) (then-else (f kind (take l (drop 5 s))) (shift (5 + l) (k (drop (5 + l) s))) (rw (part 5 l s) at g) other)
+  front-else f k s kind to e q g z =
+      rw (front-at f k s kind to e q) (then-else (f kind (take (to - 5) (drop 5 s))) (shift to (k (drop to s))) g z)
 
   -- the record alone
-  pub front-alone : (f : Reader) (s : List ℕ) (kind l : ℕ) {r : Head} {w : Walk} {o : List ℕ} → r ≡ headOf s → r ≡ head.Piece kind l
-      → Told (run v b s₀ (f kind (take (5 + l - 5) (drop 5 s)))) w o → Told (run v b s₀ (front f nothing s)) w o
-  unfolding frontAt
-  front-alone f s kind l e q g = rw (← e, q, shift-done (5 + l), then-done (f kind (take l (drop 5 s)))) (rw (part 5 l s) at g)
+  pub front-alone : (f : Reader) (s : List ℕ) (kind to : ℕ) {r : HeadRead} {w : Walk} {o : List ℕ} → r ≡ headRead (headOf s) → r ≡ head-read.To kind to
+      → Told (run v b s₀ (f kind (take (to - 5) (drop 5 s)))) w o → Told (run v b s₀ (front f nothing s)) w o
+  front-alone f s kind to e q g = rw (front-at f nothing s kind to e q, shift-done to, then-done (f kind (take (to - 5) (drop 5 s)))) g
 
   -- a list
-  inside : (f : Reader) (s : List ℕ) (l : ℕ) {w : Walk} {o : List ℕ} → Told (run v (b + 4) s₀ (records f (take (4 + l - 4) (drop 4 s)))) w o
-      → Told (run v b s₀ (shift 4 (records f (take l (drop 4 s))))) w o
-  inside f s l g = rw (run-shift v b 4 s₀ (records f (take l (drop 4 s)))) (rw (part 4 l s) at g)
-
-  pub listed-cut : (f : Reader) (k : Reading) (s : List ℕ) {r : Span} → r ≡ listOf s → r ≡ span.Cut → Told (run v b s₀ (listed f k s)) (walk.Refused Short) (s₀ .out)
+  pub listed-refused : (f : Reader) (k : Reading) (s : List ℕ) (x : Refusal) {r : Reach} → r ≡ spanReach 4 (listOf s) → r ≡ reach.Refused x
+      → Told (run v b s₀ (listed f k s)) (walk.Refused x) (s₀ .out)
   unfolding listedAt
-  listed-cut f k s e q = told-refused (listed f k s) Short (rw (← e, q))
+  listed-refused f k s x e q = told-refused (listed f k s) x (rw (span-refused 4 (listOf s) e x q))
 
-  pub listed-on : (f : Reader) (k : Reading) (s : List ℕ) (l m : ℕ) {r : Span} {w : Walk} {o : List ℕ} → r ≡ listOf s → r ≡ span.Bytes l
-      → Told (run v (b + 4) s₀ (records f (take (4 + l - 4) (drop 4 s)))) w o → w ≡ walk.Done m
-      → run v b s₀ (listed f k s) ≡ run v (b + (4 + l)) (st o m) (k (take (length s - (4 + l)) (drop (4 + l) s)))
+  -- the list alone
+  pub listed-alone : (f : Reader) (s : List ℕ) (to : ℕ) {r : Reach} {w : Walk} {o : List ℕ} → r ≡ spanReach 4 (listOf s) → r ≡ reach.To to
+      → Told (run v (b + 4) s₀ (records f (take (to - 4) (drop 4 s)))) w o → Told (run v b s₀ (listed f nothing s)) w o
   unfolding listedAt
-  listed-on f k s l m e q g z =
-      rw (to-end (4 + l) s, ← e, q) (then-on (shift 4 (records f (take l (drop 4 s)))) (k (drop (4 + l) s)) (4 + l) m (inside f s l g) z)
-
-  pub listed-else : (f : Reader) (k : Reading) (s : List ℕ) (l : ℕ) {r : Span} {w : Walk} {o : List ℕ} → r ≡ listOf s → r ≡ span.Bytes l
-      → Told (run v (b + 4) s₀ (records f (take (4 + l - 4) (drop 4 s)))) w o → ((m : ℕ) → w ≡ walk.Done m → ⊥)
-      → Told (run v b s₀ (listed f k s)) w o
-  unfolding listedAt
-  listed-else f k s l e q g other =
-      rw (← e, q) (then-else (shift 4 (records f (take l (drop 4 s)))) (shift (4 + l) (k (drop (4 + l) s))) (inside f s l g) other)
+  listed-alone f s to e q g =
+      let inside = records f (take (to - 4) (drop 4 s)) in
+      rw (span-to 4 (listOf s) e to q .0, shift-done (4 + (to - 4)), then-done (shift 4 inside), run-shift v b 4 s₀ inside) g
 
   -- a name
-  pub named-refused : (k : Reading) (s : List ℕ) (x : Refusal) {r : NameRead} → r ≡ nameOf s → r ≡ name.Refused x → Told (run v b s₀ (named k s)) (walk.Refused x) (s₀ .out)
+  pub named-refused : (k : Reading) (s : List ℕ) (x : Refusal) {r : Reach} → r ≡ spanReach 1 (nameOf s) → r ≡ reach.Refused x
+      → Told (run v b s₀ (named k s)) (walk.Refused x) (s₀ .out)
   unfolding namedAt
-  named-refused k s x e q = told-refused (named k s) x (rw (← e, q))
+  named-refused k s x e q = told-refused (named k s) x (rw (span-refused 1 (nameOf s) e x q))
 
-  pub named-on : (k : Reading) (s : List ℕ) (l : ℕ) {r : NameRead} → r ≡ nameOf s → r ≡ name.Bytes l
-      → run v b s₀ (named k s) ≡ run v (b + (1 + l)) s₀ (k (take (length s - (1 + l)) (drop (1 + l) s)))
+  pub named-on : (k : Reading) (s : List ℕ) (to : ℕ) {r : Reach} → r ≡ spanReach 1 (nameOf s) → r ≡ reach.To to
+      → run v b s₀ (named k s) ≡ run v (b + to) s₀ (k (take (length s - to) (drop to s)))
   unfolding namedAt
-  named-on k s l e q = rw (to-end (1 + l) s, ← e, q) (run-shift v b (1 + l) s₀ (k (drop (1 + l) s)))
+  named-on k s to e q =
+      let h = span-to 1 (nameOf s) e to q in
+      rw (to-end to s, h .0, h .1) (run-shift v b to s₀ (k (drop to s)))
 
   -- a name, and no record after it
-  pub named-none : (f : Reader) (s : List ℕ) (l : ℕ) {r : NameRead} → r ≡ nameOf s → r ≡ name.Bytes l → 1 + l ≡ length s
+  pub named-none : (f : Reader) (s : List ℕ) (to : ℕ) {r : Reach} → r ≡ spanReach 1 (nameOf s) → r ≡ reach.To to → to ≡ length s
       → Told (run v b s₀ (named (records f) s)) (walk.Done (s₀ .n)) (s₀ .out)
-  named-none f s l e q z =
-      let rest = take (length s - (1 + l)) (drop (1 + l) s) in
-      rw (named-on (records f) s l e q)
-      (told-done-at (b + (1 + l)) (records f rest) (repeat-none (front f) rest (omega (arith, length-take (length s - (1 + l)) (drop (1 + l) s), z))))
+  named-none f s to e q z =
+      let rest = take (length s - to) (drop to s) in
+      rw (named-on (records f) s to e q)
+      (told-done v (b + to) s₀ (records f rest) (repeat-none (front f) rest (omega (arith, length-take (length s - to) (drop to s), z))))
 
   -- a flag
   pub flagged-refused : (j k : Reading) (s : List ℕ) (x : Refusal) {r : FlagRead} → r ≡ flagOf s → r ≡ flag.Refused x → Told (run v b s₀ (flagged j k s)) (walk.Refused x) (s₀ .out)
@@ -157,10 +144,10 @@ module _ (v : Visitor St) (b : ℕ) (s₀ : St) where
   flagged-on j k s e q = rw (to-end 1 s, ← e, q) (run-shift v b 1 s₀ (k (drop 1 s)))
 
   -- a mode
-  pub moded-cut : (k : Reading) (s : List ℕ) → length s ≤ 0 → Told (run v b s₀ (moded k s)) (walk.Refused Short) (s₀ .out)
+  pub moded-short : (k : Reading) (s : List ℕ) → length s ≤ 0 → Told (run v b s₀ (moded k s)) (walk.Refused Short) (s₀ .out)
   unfolding moded
-  moded-cut k [] p = told-refused (refuse Short) Short refl
-  moded-cut k (x ∷ s) p = absurd (omega arith)
+  moded-short k [] p = told-refused (refuse Short) Short refl
+  moded-short k (x ∷ s) p = absurd (omega arith)
 
   pub moded-on : (k : Reading) (s : List ℕ) → 0 < length s → getD s 0 0 < 4 → run v b s₀ (moded k s) ≡ run v (b + 1) s₀ (k (take (length s - 1) (drop 1 s)))
   unfolding moded
@@ -175,7 +162,7 @@ module _ (v : Visitor St) (b : ℕ) (s₀ : St) where
   -- the end, as `at_end` answers
   pub told-end : (s : List ℕ) {w : Walk} → w ≡ endOf (s₀ .n) s → Told (run v b s₀ (ending s)) w (s₀ .out)
   unfolding endOf ending
-  told-end [] e = rw e (told-done done refl)
+  told-end [] e = rw e (told-done v b s₀ done refl)
   told-end (x ∷ s) e = rw e (told-refused (refuse Short) Short refl)
 
   -- a record of a known kind: noted, then its payload
@@ -207,36 +194,6 @@ module _ (v : Visitor St) (b : ℕ) (s₀ : St) where
       → u ≡ v s₀ role kind b s
       → run v b s₀ (recordOf left role kind s) ≡ run v (b + 5) u (bodyOf c (recordOf (left - 1)) s)
   record-on left role kind s c e q p g = rw (record-step left role kind s c e q p, g) (whole-run c (recordOf (left - 1)) role kind s)
-
-  -- the flag and the expression of a branch, read by a callee
-  pub branch-on : (f : Role → Reader) (k : Reading) (s : List ℕ) (m : ℕ) {w : Walk} {o : List ℕ} (e : ℕ)
-      → Told (run v b s₀ (tested f nothing s)) w o → w ≡ walk.Done m → e ≡ testSpan s
-      → run v b s₀ (branch f k s) ≡ run v (b + e) (st o m) (listed (f Branch) k (take (length s - e) (drop e s)))
-  unfolding branch
-  branch-on f k s m e g z q = rw (to-end e s, q, tested-then f (listed (f Branch) k) s) (then-on (tested f nothing s) (listed (f Branch) k (drop (testSpan s) s)) (testSpan s) m g z)
-
-  pub branch-else : (f : Role → Reader) (k : Reading) (s : List ℕ) {w : Walk} {o : List ℕ}
-      → Told (run v b s₀ (tested f nothing s)) w o → ((m : ℕ) → w ≡ walk.Done m → ⊥)
-      → Told (run v b s₀ (branch f k s)) w o
-  unfolding branch
-  branch-else f k s g other = rw (tested-then f (listed (f Branch) k) s) (then-else (tested f nothing s) (shift (testSpan s) (listed (f Branch) k (drop (testSpan s) s))) g other)
-
--- the record at the front, read by a callee, and how far it reaches
-module _ (v : Visitor St) (b : ℕ) (s₀ : St) (f : Reader) (s : List ℕ) {w : Walk} {o : List ℕ} (g : Told (run v b s₀ (front f nothing s)) w o) where
-  pub first-fits : {m : ℕ} (e : ℕ) → w ≡ walk.Done m → e ≡ headSpan (headOf s) → (5 ≤ e) × (e ≤ length s)
-  unfolding frontAt headSpan run walkOf
-  first-fits {m} e z q = by-head (headOf s) refl q (g .answer)
-    where
-      by-head : (h : Head) → h ≡ headOf s → e ≡ headSpan h → w ≡ walkOf (run v b s₀ (frontAt h f nothing s)) → (5 ≤ e) × (e ≤ length s)
-      by-head (head.Piece kind n) p q′ a = omega (arith, head-fits s kind n p refl)
-      by-head head.Cut p q′ a = let y : _≡_ {A = ℕ} 0 1 = cc in absurd (omega arith)
-
-  pub first-on : (k : Reading) (m e : ℕ) → w ≡ walk.Done m → e ≡ headSpan (headOf s)
-      → run v b s₀ (front f k s) ≡ run v (b + e) (st o m) (k (take (length s - e) (drop e s)))
-  first-on k m e z q = rw (to-end e s, q, front-then f k s (headOf s)) (then-on v b s₀ (front f nothing s) (k (drop (headSpan (headOf s)) s)) (headSpan (headOf s)) m g z)
-
-  pub first-else : (k : Reading) → ((m : ℕ) → w ≡ walk.Done m → ⊥) → Told (run v b s₀ (front f k s)) w o
-  first-else k other = rw (front-then f k s (headOf s)) (then-else v b s₀ (front f nothing s) (shift (headSpan (headOf s)) (k (drop (headSpan (headOf s)) s))) g other)
 
 -- 3. What `at_end` answers
 

@@ -4,12 +4,6 @@ use mathlib.Core.List.{List, [], _∷_}
 use lib.ListN.{length, take, drop}
 use lib.Dec.{ltb}
 use Rattle.fields.specs.declared.Refusal.the-variants.{Short, Unknown, Deep}
-use Rattle.fields.specs.declared.Head.{Head}
-use Rattle.fields.specs.declared.Head.the-variants as head
-use Rattle.fields.specs.declared.Span.{Span}
-use Rattle.fields.specs.declared.Span.the-variants as span
-use Rattle.fields.specs.declared.NameRead.{NameRead}
-use Rattle.fields.specs.declared.NameRead.the-variants as name
 use Rattle.fields.specs.declared.FlagRead.{FlagRead}
 use Rattle.fields.specs.declared.FlagRead.the-variants as flag
 use Rattle.fields.specs.declared.Role.{Role}
@@ -18,7 +12,7 @@ use Rattle.fields.specs.declared.Body.{Body}
 use Rattle.fields.specs.declared.Body.the-variants as body
 use Rattle.fields.specs.declared.Kinded.{Kinded}
 use Rattle.fields.specs.declared.Kinded.the-variants as kinded
-use Rattle.fields.specs.Bytes.{pick, headOf, listOf, nameOf, flagOf}
+use Rattle.fields.specs.Bytes.{Head, Span, pick, headOf, listOf, nameOf, flagOf}
 use Rattle.fields.specs.Kinds.{kindOf}
 use Rattle.records.specs.Trace.{Trace, done, refuse, emit, andThen, shift}
 
@@ -32,8 +26,8 @@ Reader = ℕ → Reading
 
 -- the record at the front by f, then what follows it by k
 unfoldable pub frontAt : Head → Reader → Reading → Reading
-frontAt (head.Piece kind n) f k s = andThen (f kind (take n (drop 5 s))) (shift (5 + n) (k (drop (5 + n) s)))
-frontAt head.Cut f k s = refuse Short
+frontAt (Head.Piece kind n) f k s = andThen (f kind (take n (drop 5 s))) (shift (5 + n) (k (drop (5 + n) s)))
+frontAt (Head.Refused r) f k s = refuse r
 
 -- the same, by the head that the bytes have
 abbrev pub front : Reader → Reading → Reading
@@ -69,17 +63,17 @@ exact (suc n) f s = front f (exact n f) s
 
 -- the list at the front by f, then what follows it by k
 unfoldable pub listedAt : Span → Reader → Reading → Reading
-listedAt (span.Bytes n) f k s = andThen (shift 4 (records f (take n (drop 4 s)))) (shift (4 + n) (k (drop (4 + n) s)))
-listedAt span.Cut f k s = refuse Short
+listedAt (Span.Bytes n) f k s = andThen (shift 4 (records f (take n (drop 4 s)))) (shift (4 + n) (k (drop (4 + n) s)))
+listedAt (Span.Refused r) f k s = refuse r
 
 -- the same, by the length that the bytes have
 abbrev pub listed : Reader → Reading → Reading
 listed f k s = listedAt (listOf s) f k s
 
 -- the name at the front, then what follows it by k
-unfoldable pub namedAt : NameRead → Reading → Reading
-namedAt (name.Bytes n) k s = shift (1 + n) (k (drop (1 + n) s))
-namedAt (name.Refused r) k s = refuse r
+unfoldable pub namedAt : Span → Reading → Reading
+namedAt (Span.Bytes n) k s = shift (1 + n) (k (drop (1 + n) s))
+namedAt (Span.Refused r) k s = refuse r
 
 -- the same, by the name that the bytes have
 abbrev pub named : Reading → Reading

@@ -6,11 +6,7 @@ use lib.ListN.{length, getD, take, drop}
 use lib.Dec.{eqb}
 use Rattle.fields.specs.declared.Role.{Role}
 use Rattle.fields.specs.declared.Role.the-variants.{Node, Branch, Cond, Visited, Argument, Unvisited}
-use Rattle.fields.specs.declared.Head.{Head}
-use Rattle.fields.specs.declared.Head.the-variants as head
-use Rattle.fields.specs.declared.Span.{Span}
-use Rattle.fields.specs.declared.Span.the-variants as span
-use Rattle.fields.specs.Bytes.{pick, headOf, listOf}
+use Rattle.fields.specs.Bytes.{Head, Span, pick, headOf, listOf}
 use Rattle.names.specs.Words.{Bytes, any}
 use Rattle.records.specs.Trace.{Record, met, Ending, well, refused, ends}
 use Rattle.records.specs.Grammar.{nodes}
@@ -46,7 +42,7 @@ pub record What : Type 0 where
   pub name : Bytes
   -- the name is a label: a gather, or a choice with a label
   pub labels : Bool
-  -- of a choice: it stands directly in a branch of kind 8 or 9
+  -- a node directly in a branch of kind 8 or 9; rule 11 asks it of choices
   pub branch : Bool
   -- of a choice: its body's last non-Newline is of kinds 3, 6, 7, 11, 12
   pub leaves : Bool
@@ -134,8 +130,8 @@ leaving kind = any (eqb kind) (3 ∷ 6 ∷ 7 ∷ 11 ∷ 12 ∷ [])
 
 -- the last record so far that is no Newline leaves
 unfoldable pub endingAt : Head → (Bool → List ℕ → Bool) → Bool → List ℕ → Bool
-endingAt (head.Piece kind n) k sofar s = k (pick (eqb kind 1) sofar (leaving kind)) (drop (5 + n) s)
-endingAt head.Cut k sofar s = sofar
+endingAt (Head.Piece kind n) k sofar s = k (pick (eqb kind 1) sofar (leaving kind)) (drop (5 + n) s)
+endingAt (Head.Refused x) k sofar s = sofar
 
 -- the same, over at most n records
 unfoldable pub endingN : ℕ → Bool → List ℕ → Bool
@@ -148,13 +144,13 @@ endWithDivert s = endingN (length s) false s
 
 -- the bytes of the list at the front
 unfoldable pub spanned : Span → List ℕ → List ℕ
-spanned (span.Bytes n) s = take n (drop 4 s)
-spanned span.Cut s = []
+spanned (Span.Bytes n) s = take n (drop 4 s)
+spanned (Span.Refused x) s = []
 
 -- what follows the list at the front
 unfoldable pub past : Span → List ℕ → List ℕ
-past (span.Bytes n) s = drop (4 + n) s
-past span.Cut s = []
+past (Span.Bytes n) s = drop (4 + n) s
+past (Span.Refused x) s = []
 
 -- what follows a choice's flag and label
 unfoldable pub unlabelled : List ℕ → List ℕ

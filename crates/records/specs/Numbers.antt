@@ -4,9 +4,7 @@ use mathlib.Core.Bool.{Bool, true, false, not, _&&_}
 use mathlib.Core.List.{List, [], _∷_}
 use lib.Dec.{ltb, eqb}
 use lib.ListN.{getD, take, drop}
-use Rattle.fields.specs.declared.Head.{Head}
-use Rattle.fields.specs.declared.Head.the-variants as head
-use Rattle.fields.specs.Bytes.{pick, headOf}
+use Rattle.fields.specs.Bytes.{Head, pick, headOf}
 use Rattle.records.specs.Items.{Kind, plain, temp, divert, tunnel, thread, call, variable, argument, choice, gather, code, What, is, Item, nameStart, recordName, leaves}
 
 -- a test as a number
@@ -49,8 +47,8 @@ labelsIn x = eqb (x / 1048576 / 32) 1
 
 -- the payload behind a head
 unfoldable pub payloadBehind : Head → List ℕ → List ℕ
-payloadBehind (head.Piece kind n) s = take n (drop 5 s)
-payloadBehind head.Cut s = []
+payloadBehind (Head.Piece kind n) s = take n (drop 5 s)
+payloadBehind (Head.Refused x) s = []
 
 -- the payload of the record whose kind byte stands at the place
 unfoldable pub payloadAt : List ℕ → ℕ → List ℕ

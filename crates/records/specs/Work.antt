@@ -2,16 +2,20 @@
 use Prim.Native.Nat.{ℕ, _+_, _*_, _%_, _^_}
 use mathlib.Core.Path.{_≡_}
 use mathlib.Core.List.{List, [], _∷_, map}
-use lib.ListN.{length, set}
+use lib.ListN.{length, drop, set}
 use Rattle.fields.specs.declared.Refusal.{Refusal}
 use Rattle.fields.specs.declared.Refusal.the-variants.{Short}
 use Rattle.fields.specs.declared.Role.{Role}
 use Rattle.fields.specs.declared.Body.the-variants.{Exprs}
 use Rattle.fields.specs.declared.Kinded.the-variants.{Known}
 use Rattle.fields.specs.Kinds.{kindOf}
-use Rattle.fields.specs.Bytes.{pick}
+use Rattle.fields.specs.declared.FlagRead.{FlagRead}
+use Rattle.fields.specs.declared.FlagRead.the-variants as flag
+use Rattle.fields.specs.Bytes.{Head, Span, pick, headOf, listOf, flagOf}
 use Rattle.records.specs.Trace.{Trace, done, refuse, emit, met, Ending, well, refused, ends}
 use Rattle.records.specs.Items.{plain, code, is, Item, sortOf, itemOf}
+use Rattle.records.specs.declared.PieceRead.{PieceRead}
+use Rattle.records.specs.declared.PieceRead.the-variants as piece-read
 use Rattle.records.specs.declared.Walk.{Walk}
 use Rattle.records.specs.declared.Walk.the-variants as walk
 use Rattle.records.specs.Numbers.{numberOf, keptOf}
@@ -50,7 +54,7 @@ st o n = record { out = o; n = n }
 unfoldable pub counts : ℕ → ℕ → ℕ
 counts kept all = kept + 4294967296 * all
 
--- an item, in the slot of its number where it is not plain; no file reaches 2 ^ 32
+-- an item, in the slot after those kept so far where it is not plain; no file reaches 2 ^ 32
 unfoldable pub keep : St → Item → St
 keep s i =
     pick (is plain (i .what)) (st (s .out) ((s .n + 4294967296) % 2 ^ 64))
@@ -74,6 +78,45 @@ ranOut (broke s r) = s .out
 pub record Told (x : Ran St) (w : Walk) (o : List ℕ) : Type 0 where
   pub answer : w ≡ walkOf x
   pub written : o ≡ ranOut x
+
+-- the answer with the place after what was read
+unfoldable pub pieceReadOf : ℕ → Ran St → PieceRead
+pieceReadOf to (ended s) = piece-read.To to (s .n)
+pieceReadOf to (broke s r) = piece-read.Refused r
+
+-- an answer with a place and what was written are those of x, which reads to the place
+pub record ToldTo (x : Ran St) (to : ℕ) (a : PieceRead) (o : List ℕ) : Type 0 where
+  pub answer : a ≡ pieceReadOf to x
+  pub written : o ≡ ranOut x
+
+-- the place after the record at the front; 0 where it is refused, a place that no answer shows, here and below
+unfoldable pub headEndOf : Head → ℕ
+headEndOf (Head.Piece kind n) = 5 + n
+headEndOf (Head.Refused r) = 0
+
+abbrev pub headEnd : List ℕ → ℕ
+headEnd s = headEndOf (headOf s)
+
+-- the place after the list at the front
+unfoldable pub listEndOf : Span → ℕ
+listEndOf (Span.Bytes n) = 4 + n
+listEndOf (Span.Refused r) = 0
+
+abbrev pub listEnd : List ℕ → ℕ
+listEnd s = listEndOf (listOf s)
+
+-- the place after the test of a branch, a flag and an expression if it is 1
+unfoldable pub testEndOf : FlagRead → List ℕ → ℕ
+testEndOf flag.Off s = 1
+testEndOf flag.On s = 1 + headEnd (drop 1 s)
+testEndOf (flag.Refused r) s = 0
+
+abbrev pub testEnd : List ℕ → ℕ
+testEnd s = testEndOf (flagOf s) s
+
+-- the place after a branch, its test and its list
+abbrev pub branchEnd : List ℕ → ℕ
+branchEnd s = testEnd s + listEnd (drop (testEnd s) s)
 
 -- what is answered at the end of the bytes
 unfoldable pub endOf : ℕ → List ℕ → Walk
@@ -100,8 +143,8 @@ pub record BareKind (role : Role) (kind : ℕ) : Type 0 where
   pub nothing-inside : kindOf role kind ≡ Known (Exprs 0 inner)
   pub is-plain : (payload : List ℕ) → 0 ≡ code (sortOf role kind payload)
 
--- a record with this head, with so many levels left, is nothing but the head, and is plain
-pub record Bare (role : Role) (kind len left : ℕ) : Type 0 where
-  pub empty : len ≡ 0
+-- a record of the kind, with this place after it from its kind byte on and so many levels left, is nothing but its head, and is plain
+pub record Bare (role : Role) (kind to left : ℕ) : Type 0 where
+  pub empty : to ≡ 5
   pub some-left : left ≡ 0 → ⊥
   pub bare : BareKind role kind

@@ -4,7 +4,7 @@ ghost use lib.ListN.{length};
 ghost use Rattle.records.specs.Grammar.{nodes};
 ghost use Rattle.records.specs.Work.{run, st, keeping, Told};
 
-mod sorts;
+pub mod sorts;
 pub mod walker;
 
 use fields::Refusal;
@@ -14,6 +14,12 @@ use walker::list;
 // How a walk ends: read through, with the counts of records kept and met as one number; or refused.
 pub enum Walk {
     Done(usize),
+    Refused(Refusal),
+}
+
+// The place after a piece that was read, and the counts with its records; or the refusal.
+pub enum PieceRead {
+    To(usize, usize),
     Refused(Refusal),
 }
 

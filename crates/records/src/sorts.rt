@@ -7,29 +7,29 @@ ghost use Rattle.records.specs.Work.{Bare, BareKind};
 ghost use mathlib.Core.Bool.{true};
 use fields::Role;
 
-// A number for each sort of item.
-pub const PLAIN: u32 = 0;
+// The sorts of records, numbered as `code` of specs/Items has them.
+pub const PLAIN: u8 = 0;
 
-pub const TEMP: u32 = 1;
+pub const TEMP: u8 = 1;
 
-pub const DIVERT: u32 = 2;
+pub const DIVERT: u8 = 2;
 
-pub const TUNNEL: u32 = 3;
+pub const TUNNEL: u8 = 3;
 
-pub const THREAD: u32 = 4;
+pub const THREAD: u8 = 4;
 
-pub const CALL: u32 = 5;
+pub const CALL: u8 = 5;
 
-pub const VARIABLE: u32 = 6;
+pub const VARIABLE: u8 = 6;
 
-pub const ARGUMENT: u32 = 7;
+pub const ARGUMENT: u8 = 7;
 
-pub const CHOICE: u32 = 8;
+pub const CHOICE: u8 = 8;
 
-pub const GATHER: u32 = 9;
+pub const GATHER: u8 = 9;
 
 // A flag byte at the front.
-fn is_flagged(s: &[u8]) -> bool
+pub fn is_flagged(s: &[u8]) -> bool
     ensures { λ r. ⌜ r ≡ flag (now (s .entry)) ⌝ }
 {
     if s.len() < 1 {
@@ -39,7 +39,7 @@ fn is_flagged(s: &[u8]) -> bool
 }
 
 // The sort of an assignment: a temp where its mode is 1.
-fn assigned_sort(payload: &[u8]) -> u32
+fn assigned_sort(payload: &[u8]) -> u8
     ensures { λ r. ⌜ r ≡ code (assigned (now (payload .entry))) ⌝ }
 {
     if is_flagged(payload) {
@@ -49,7 +49,7 @@ fn assigned_sort(payload: &[u8]) -> u32
 }
 
 // The sort of a node.
-fn node_sort(kind: u8, payload: &[u8]) -> u32
+fn node_sort(kind: u8, payload: &[u8]) -> u8
     ensures { λ r. ⌜ r ≡ code (getD (nodeSorts (now (payload .entry))) kind Kind.plain) ⌝ }
 {
     match kind {
@@ -65,7 +65,7 @@ fn node_sort(kind: u8, payload: &[u8]) -> u32
 }
 
 // The sort of a condition.
-fn cond_sort(kind: u8) -> u32
+fn cond_sort(kind: u8) -> u8
     ensures { λ r. ⌜ r ≡ code (getD condSorts kind Kind.plain) ⌝ }
 {
     match kind {
@@ -75,7 +75,7 @@ fn cond_sort(kind: u8) -> u32
 }
 
 // The sort of an expression that the steps on calls and variables visit.
-fn expr_sort(kind: u8) -> u32
+fn expr_sort(kind: u8) -> u8
     ensures { λ r. ⌜ r ≡ code (getD exprSorts kind Kind.plain) ⌝ }
 {
     match kind {
@@ -86,7 +86,7 @@ fn expr_sort(kind: u8) -> u32
 }
 
 // The sort of an argument of a divert.
-fn argument_sort(kind: u8) -> u32
+fn argument_sort(kind: u8) -> u8
     ensures { λ r. ⌜ r ≡ code (getD argumentSorts kind Kind.plain) ⌝ }
 {
     match kind {
@@ -96,7 +96,7 @@ fn argument_sort(kind: u8) -> u32
 }
 
 // The sort of a record.
-pub fn sort_of(role: Role, kind: u8, payload: &[u8]) -> u32
+pub fn sort_of(role: Role, kind: u8, payload: &[u8]) -> u8
     ensures { λ r. ⌜ r ≡ code (sortOf role kind (now (payload .entry))) ⌝ }
 {
     match role {
@@ -124,7 +124,7 @@ pub fn branch_bit(role: Role) -> u32
 }
 
 // 1 where the name of a record of the sort is a label.
-pub fn label_bit(sort: u32, payload: &[u8]) -> u32
+pub fn label_bit(sort: u8, payload: &[u8]) -> u32
     ensures { λ r. ⌜ ((k : Kind) → sort ≡ code k → r ≡ bit (labelled k (now (payload .entry)))) ⌝ }
 {
     match sort {
@@ -139,7 +139,7 @@ pub fn label_bit(sort: u32, payload: &[u8]) -> u32
     }
 }
 
-// A record of this kind has nothing inside it, and is plain: text and the like. Not all of these are told.
+// A record of this kind has nothing inside it, and is plain: text and the like. A false says nothing.
 fn is_bare_kind(role: Role, kind: u8) -> bool
     ensures { λ r. ⌜ (r ≡ true → BareKind role kind) ⌝ }
 {
@@ -153,11 +153,11 @@ fn is_bare_kind(role: Role, kind: u8) -> bool
     }
 }
 
-// A record with this head is nothing but the head, and is plain.
-pub fn is_bare(role: Role, kind: u8, len: usize, left: usize) -> bool
-    ensures { λ r. ⌜ (r ≡ true → Bare role kind len left) ⌝ }
+// A record of this kind, with this place after it from its kind byte on, is nothing but its head, and is plain.
+pub fn is_bare(role: Role, kind: u8, to: usize, left: usize) -> bool
+    ensures { λ r. ⌜ (r ≡ true → Bare role kind to left) ⌝ }
 {
-    if len != 0 {
+    if to != 5 {
         return false;
     }
     if left == 0 {

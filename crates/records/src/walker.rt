@@ -4,7 +4,8 @@ ghost use Prim.Native.Nat.{_+_, _<_, _^_};
 ghost use lib.ListN.{length};
 ghost use Rattle.fields.specs.declared.Role.the-variants as Role;
 ghost use Rattle.records.specs.Grammar.{recordOf, records, exact, ending, repeat, front, listed, named, flagged, last, orElse, arms, options, bodyOf, nothing, tested, branch, moded};
-ghost use Rattle.records.specs.Work.{run, st, keeping, Told, endOf};
+ghost use Rattle.records.specs.Work.{run, st, keeping, Told, ToldTo, headEnd, listEnd, testEnd, branchEnd, endOf};
+use crate::PieceRead;
 use crate::Walk;
 use crate::sorts::PLAIN;
 use crate::sorts::branch_bit;
@@ -13,19 +14,16 @@ use crate::sorts::label_bit;
 use crate::sorts::sort_of;
 use fields::Body;
 use fields::FlagRead;
-use fields::Head;
+use fields::HeadRead;
 use fields::Kinded;
-use fields::NameRead;
+use fields::Reach;
 use fields::Refusal;
 use fields::Role;
-use fields::Span;
-use fields::front_span;
 use fields::read_flag;
 use fields::read_head;
 use fields::read_kind;
 use fields::read_list;
 use fields::read_name;
-use fields::test_span;
 
 // A record, kept in its slot where it is not plain and there is one for it. Answers the counts with it.
 fn note(role: Role, kind: u8, payload: &[u8], place: usize, out: &mut [u32], n: usize) -> usize
@@ -41,7 +39,7 @@ fn note(role: Role, kind: u8, payload: &[u8], place: usize, out: &mut [u32], n: 
     if slot < out.len() {
         let branch = branch_bit(role);
         let label = label_bit(sort, payload);
-        out[slot] = place as u32 + 1048576 * (sort + 16 * branch + 32 * label);
+        out[slot] = place as u32 + 1048576 * (sort as u32 + 16 * branch + 32 * label);
         return next;
     }
     next
@@ -62,13 +60,10 @@ fn single(s: &[u8], base: usize, out: &mut [u32], n: usize) -> Walk
     requires { ⌜ base + length (now s) < 2 ^ 20 ⌝ }
     ensures { λ r. ⌜ Told (run keeping base (st (now (out .entry)) n) (named ending (now (s .entry)))) r (now (out .exit)) ⌝ }
 {
-    let answer = read_name(s);
-    match answer {
-        NameRead::Refused(r) => Walk::Refused(r),
-        NameRead::Bytes(k) => {
-            let e = 1 + k;
-            at_end(&s[e..], n)
-        }
+    let reach = read_name(s);
+    match reach {
+        Reach::Refused(r) => Walk::Refused(r),
+        Reach::To(e) => at_end(&s[e..], n),
     }
 }
 
@@ -128,12 +123,11 @@ fn exact(
     if many == 0 {
         return at_end(s, n);
     }
-    let w = first(s, role, base, left, out, n);
-    let Walk::Done(m) = w else {
-        return w;
-    };
-    let e = front_span(s);
-    exact(&s[e..], many - 1, role, base + e, left, out, m)
+    let piece = first(s, role, base, left, out, n);
+    match piece {
+        PieceRead::Refused(r) => Walk::Refused(r),
+        PieceRead::To(e, m) => exact(&s[e..], many - 1, role, base + e, left, out, m),
+    }
 }
 
 // Records of a role to the end.
@@ -145,23 +139,27 @@ pub fn list(s: &[u8], role: Role, base: usize, left: usize, out: &mut [u32], n: 
     let mut at = base;
     let mut count = n;
     while 0 < t.len() {
-        let Head::Piece(kind, len) = read_head(t) else {
-            return Walk::Refused(Refusal::Short);
-        };
-        let e = 5 + len;
-        if is_bare(role, kind, len, left) {
-            count = std::num::wrapping_add_usize(count, 4294967296);
-            at = at + e;
-            t = &t[e..];
-            continue;
+        let head = read_head(t);
+        match head {
+            HeadRead::Refused(r) => {
+                return Walk::Refused(r);
+            }
+            HeadRead::To(kind, e) => {
+                if is_bare(role, kind, e, left) {
+                    count = std::num::wrapping_add_usize(count, 4294967296);
+                    at = at + e;
+                    t = &t[e..];
+                    continue;
+                }
+                let w = record(&t[5..e], role, kind, at, left, out, count);
+                let Walk::Done(m) = w else {
+                    return w;
+                };
+                count = m;
+                at = at + e;
+                t = &t[e..];
+            }
         }
-        let w = record(&t[5..e], role, kind, at, left, out, count);
-        let Walk::Done(m) = w else {
-            return w;
-        };
-        count = m;
-        at = at + e;
-        t = &t[e..];
     }
     Walk::Done(count)
 }
@@ -171,11 +169,10 @@ fn call(s: &[u8], role: Role, base: usize, left: usize, out: &mut [u32], n: usiz
     requires { ⌜ base + length (now s) < 2 ^ 20 ⌝ }
     ensures { λ r. ⌜ Told (run keeping base (st (now (out .entry)) n) (named (records (recordOf left role)) (now (s .entry)))) r (now (out .exit)) ⌝ }
 {
-    let answer = read_name(s);
-    match answer {
-        NameRead::Refused(r) => Walk::Refused(r),
-        NameRead::Bytes(k) => {
-            let e = 1 + k;
+    let reach = read_name(s);
+    match reach {
+        Reach::Refused(r) => Walk::Refused(r),
+        Reach::To(e) => {
             if e == s.len() {
                 return Walk::Done(n);
             }
@@ -189,12 +186,11 @@ fn conditional(s: &[u8], base: usize, left: usize, out: &mut [u32], n: usize) ->
     requires { ⌜ base + length (now s) < 2 ^ 20 ⌝ }
     ensures { λ r. ⌜ Told (run keeping base (st (now (out .entry)) n) (front (recordOf left Role.Cond) (arms (recordOf left)) (now (s .entry)))) r (now (out .exit)) ⌝ }
 {
-    let w = first(s, Role::Cond, base, left, out, n);
-    let Walk::Done(m) = w else {
-        return w;
-    };
-    let e = front_span(s);
-    arms(&s[e..], base + e, left, out, m)
+    let piece = first(s, Role::Cond, base, left, out, n);
+    match piece {
+        PieceRead::Refused(r) => Walk::Refused(r),
+        PieceRead::To(e, m) => arms(&s[e..], base + e, left, out, m),
+    }
 }
 
 // A list of nodes, and perhaps another.
@@ -202,15 +198,11 @@ fn arms(s: &[u8], base: usize, left: usize, out: &mut [u32], n: usize) -> Walk
     requires { ⌜ base + length (now s) < 2 ^ 20 ⌝ }
     ensures { λ r. ⌜ Told (run keeping base (st (now (out .entry)) n) (arms (recordOf left) (now (s .entry)))) r (now (out .exit)) ⌝ }
 {
-    let Span::Bytes(len) = read_list(s) else {
-        return Walk::Refused(Refusal::Short);
-    };
-    let e = 4 + len;
-    let w = list(&s[4..e], Role::Branch, base + 4, left, out, n);
-    let Walk::Done(m) = w else {
-        return w;
-    };
-    else_arm(&s[e..], base + e, left, out, m)
+    let piece = front_list(s, Role::Branch, base, left, out, n);
+    match piece {
+        PieceRead::Refused(r) => Walk::Refused(r),
+        PieceRead::To(e, m) => else_arm(&s[e..], base + e, left, out, m),
+    }
 }
 
 // A flag, and a list of nodes if it is 1.
@@ -231,15 +223,11 @@ fn last(s: &[u8], role: Role, base: usize, left: usize, out: &mut [u32], n: usiz
     requires { ⌜ base + length (now s) < 2 ^ 20 ⌝ }
     ensures { λ r. ⌜ Told (run keeping base (st (now (out .entry)) n) (last role (recordOf left) (now (s .entry)))) r (now (out .exit)) ⌝ }
 {
-    let Span::Bytes(len) = read_list(s) else {
-        return Walk::Refused(Refusal::Short);
-    };
-    let e = 4 + len;
-    let w = list(&s[4..e], role, base + 4, left, out, n);
-    let Walk::Done(m) = w else {
-        return w;
-    };
-    at_end(&s[e..], m)
+    let piece = front_list(s, role, base, left, out, n);
+    match piece {
+        PieceRead::Refused(r) => Walk::Refused(r),
+        PieceRead::To(e, m) => at_end(&s[e..], m),
+    }
 }
 
 // Lists of nodes to the end.
@@ -251,17 +239,17 @@ fn lists(s: &[u8], base: usize, left: usize, out: &mut [u32], n: usize) -> Walk
     let mut at = base;
     let mut count = n;
     while 0 < t.len() {
-        let Span::Bytes(len) = read_list(t) else {
-            return Walk::Refused(Refusal::Short);
-        };
-        let e = 4 + len;
-        let w = list(&t[4..e], Role::Node, at + 4, left, out, count);
-        let Walk::Done(m) = w else {
-            return w;
-        };
-        count = m;
-        at = at + e;
-        t = &t[e..];
+        let piece = front_list(t, Role::Node, at, left, out, count);
+        match piece {
+            PieceRead::Refused(r) => {
+                return Walk::Refused(r);
+            }
+            PieceRead::To(e, m) => {
+                count = m;
+                at = at + e;
+                t = &t[e..];
+            }
+        }
     }
     Walk::Done(count)
 }
@@ -284,13 +272,10 @@ fn label(s: &[u8], base: usize, left: usize, out: &mut [u32], n: usize) -> Walk
     requires { ⌜ base + length (now s) < 2 ^ 20 ⌝ }
     ensures { λ r. ⌜ Told (run keeping base (st (now (out .entry)) n) (named (options (recordOf left)) (now (s .entry)))) r (now (out .exit)) ⌝ }
 {
-    let answer = read_name(s);
-    match answer {
-        NameRead::Refused(r) => Walk::Refused(r),
-        NameRead::Bytes(k) => {
-            let e = 1 + k;
-            options(&s[e..], base + e, left, out, n)
-        }
+    let reach = read_name(s);
+    match reach {
+        Reach::Refused(r) => Walk::Refused(r),
+        Reach::To(e) => options(&s[e..], base + e, left, out, n),
     }
 }
 
@@ -299,15 +284,11 @@ fn options(s: &[u8], base: usize, left: usize, out: &mut [u32], n: usize) -> Wal
     requires { ⌜ base + length (now s) < 2 ^ 20 ⌝ }
     ensures { λ r. ⌜ Told (run keeping base (st (now (out .entry)) n) (options (recordOf left) (now (s .entry)))) r (now (out .exit)) ⌝ }
 {
-    let Span::Bytes(len) = read_list(s) else {
-        return Walk::Refused(Refusal::Short);
-    };
-    let e = 4 + len;
-    let w = list(&s[4..e], Role::Cond, base + 4, left, out, n);
-    let Walk::Done(m) = w else {
-        return w;
-    };
-    last(&s[e..], Role::Node, base + e, left, out, m)
+    let piece = front_list(s, Role::Cond, base, left, out, n);
+    match piece {
+        PieceRead::Refused(r) => Walk::Refused(r),
+        PieceRead::To(e, m) => last(&s[e..], Role::Node, base + e, left, out, m),
+    }
 }
 
 // An expression, and branches to the end.
@@ -315,15 +296,14 @@ fn switch(s: &[u8], base: usize, left: usize, out: &mut [u32], n: usize) -> Walk
     requires { ⌜ base + length (now s) < 2 ^ 20 ⌝ }
     ensures { λ r. ⌜ Told (run keeping base (st (now (out .entry)) n) (front (recordOf left Role.Visited) (repeat (branch (recordOf left))) (now (s .entry)))) r (now (out .exit)) ⌝ }
 {
-    let w = first(s, Role::Visited, base, left, out, n);
-    let Walk::Done(m) = w else {
-        return w;
-    };
-    let e = front_span(s);
-    branches(&s[e..], base + e, left, out, m)
+    let piece = first(s, Role::Visited, base, left, out, n);
+    match piece {
+        PieceRead::Refused(r) => Walk::Refused(r),
+        PieceRead::To(e, m) => branches(&s[e..], base + e, left, out, m),
+    }
 }
 
-// Branches to the end: a flag, an expression if it is 1, a list of nodes.
+// Branches to the end.
 fn branches(s: &[u8], base: usize, left: usize, out: &mut [u32], n: usize) -> Walk
     requires { ⌜ base + length (now s) < 2 ^ 20 ⌝ }
     ensures { λ r. ⌜ Told (run keeping base (st (now (out .entry)) n) (repeat (branch (recordOf left)) (now (s .entry)))) r (now (out .exit)) ⌝ }
@@ -332,51 +312,97 @@ fn branches(s: &[u8], base: usize, left: usize, out: &mut [u32], n: usize) -> Wa
     let mut at = base;
     let mut count = n;
     while 0 < t.len() {
-        let w = test(t, at, left, out, count);
-        let Walk::Done(m) = w else {
-            return w;
-        };
-        let e = test_span(t);
-        let u = &t[e..];
-        let p = at + e;
-        let Span::Bytes(len) = read_list(u) else {
-            return Walk::Refused(Refusal::Short);
-        };
-        let d = 4 + len;
-        let x = list(&u[4..d], Role::Branch, p + 4, left, out, m);
-        let Walk::Done(q) = x else {
-            return x;
-        };
-        count = q;
-        at = p + d;
-        t = &u[d..];
+        let piece = branch(t, at, left, out, count);
+        match piece {
+            PieceRead::Refused(r) => {
+                return Walk::Refused(r);
+            }
+            PieceRead::To(e, m) => {
+                count = m;
+                at = at + e;
+                t = &t[e..];
+            }
+        }
     }
     Walk::Done(count)
 }
 
-// A flag, and an expression if it is 1.
-fn test(s: &[u8], base: usize, left: usize, out: &mut [u32], n: usize) -> Walk
+// A branch at the front, a test and a list of nodes: the place after it.
+fn branch(s: &[u8], base: usize, left: usize, out: &mut [u32], n: usize) -> PieceRead
     requires { ⌜ base + length (now s) < 2 ^ 20 ⌝ }
-    ensures { λ r. ⌜ Told (run keeping base (st (now (out .entry)) n) (tested (recordOf left) nothing (now (s .entry)))) r (now (out .exit)) ⌝ }
+    ensures { λ r. ⌜ ToldTo (run keeping base (st (now (out .entry)) n) (branch (recordOf left) nothing (now (s .entry)))) (branchEnd (now (s .entry))) r (now (out .exit)) ⌝ }
+{
+    let tested = test(s, base, left, out, n);
+    let PieceRead::To(e, m) = tested else {
+        return tested;
+    };
+    let nodes = front_list(&s[e..], Role::Branch, base + e, left, out, m);
+    let PieceRead::To(d, q) = nodes else {
+        return nodes;
+    };
+    PieceRead::To(e + d, q)
+}
+
+// The test of a branch, a flag and an expression if it is 1: the place after it.
+fn test(s: &[u8], base: usize, left: usize, out: &mut [u32], n: usize) -> PieceRead
+    requires { ⌜ base + length (now s) < 2 ^ 20 ⌝ }
+    ensures { λ r. ⌜ ToldTo (run keeping base (st (now (out .entry)) n) (tested (recordOf left) nothing (now (s .entry)))) (testEnd (now (s .entry))) r (now (out .exit)) ⌝ }
 {
     let flag = read_flag(s);
     match flag {
-        FlagRead::Off => Walk::Done(n),
-        FlagRead::On => first(&s[1..], Role::Visited, base + 1, left, out, n),
-        FlagRead::Refused(r) => Walk::Refused(r),
+        FlagRead::Refused(r) => PieceRead::Refused(r),
+        FlagRead::Off => PieceRead::To(1, n),
+        FlagRead::On => {
+            let piece = first(&s[1..], Role::Visited, base + 1, left, out, n);
+            let PieceRead::To(e, m) = piece else {
+                return piece;
+            };
+            PieceRead::To(1 + e, m)
+        }
     }
 }
 
-// The record of a role at the front.
-fn first(s: &[u8], role: Role, base: usize, left: usize, out: &mut [u32], n: usize) -> Walk
+// The list of a role at the front: the place after it.
+fn front_list(
+    s: &[u8],
+    role: Role,
+    base: usize,
+    left: usize,
+    out: &mut [u32],
+    n: usize,
+) -> PieceRead
     requires { ⌜ base + length (now s) < 2 ^ 20 ⌝ }
-    ensures { λ r. ⌜ Told (run keeping base (st (now (out .entry)) n) (front (recordOf left role) nothing (now (s .entry)))) r (now (out .exit)) ⌝ }
+    ensures { λ r. ⌜ ToldTo (run keeping base (st (now (out .entry)) n) (listed (recordOf left role) nothing (now (s .entry)))) (listEnd (now (s .entry))) r (now (out .exit)) ⌝ }
 {
-    let Head::Piece(kind, len) = read_head(s) else {
-        return Walk::Refused(Refusal::Short);
-    };
-    let e = 5 + len;
-    record(&s[5..e], role, kind, base, left, out, n)
+    let reach = read_list(s);
+    match reach {
+        Reach::Refused(r) => PieceRead::Refused(r),
+        Reach::To(e) => {
+            let w = list(&s[4..e], role, base + 4, left, out, n);
+            match w {
+                Walk::Refused(r) => PieceRead::Refused(r),
+                Walk::Done(m) => PieceRead::To(e, m),
+            }
+        }
+    }
+}
+
+// The record of a role at the front: the place after it.
+fn first(s: &[u8], role: Role, base: usize, left: usize, out: &mut [u32], n: usize) -> PieceRead
+    requires { ⌜ base + length (now s) < 2 ^ 20 ⌝ }
+    ensures { λ r. ⌜ ToldTo (run keeping base (st (now (out .entry)) n) (front (recordOf left role) nothing (now (s .entry)))) (headEnd (now (s .entry))) r (now (out .exit)) ⌝ }
+{
+    let head = read_head(s);
+    match head {
+        HeadRead::Refused(r) => PieceRead::Refused(r),
+        HeadRead::To(kind, e) => {
+            let w = record(&s[5..e], role, kind, base, left, out, n);
+            match w {
+                Walk::Refused(r) => PieceRead::Refused(r),
+                Walk::Done(m) => PieceRead::To(e, m),
+            }
+        }
+    }
 }
 
 // A mode, a name and an expression.
@@ -399,12 +425,9 @@ fn set(s: &[u8], base: usize, left: usize, out: &mut [u32], n: usize) -> Walk
     requires { ⌜ base + length (now s) < 2 ^ 20 ⌝ }
     ensures { λ r. ⌜ Told (run keeping base (st (now (out .entry)) n) (named (exact 1 (recordOf left Role.Visited)) (now (s .entry)))) r (now (out .exit)) ⌝ }
 {
-    let answer = read_name(s);
-    match answer {
-        NameRead::Refused(r) => Walk::Refused(r),
-        NameRead::Bytes(k) => {
-            let e = 1 + k;
-            exact(&s[e..], 1, Role::Visited, base + e, left, out, n)
-        }
+    let reach = read_name(s);
+    match reach {
+        Reach::Refused(r) => Walk::Refused(r),
+        Reach::To(e) => exact(&s[e..], 1, Role::Visited, base + e, left, out, n),
     }
 }

@@ -14,15 +14,9 @@ use Rattle.fields.specs.declared.Role.{Role}
 use Rattle.fields.specs.declared.Role.the-variants.{Node, Cond}
 use Rattle.fields.specs.declared.Body.the-variants as body
 use Rattle.fields.specs.declared.Kinded.the-variants.{Known}
-use Rattle.fields.specs.declared.Head.{Head}
-use Rattle.fields.specs.declared.Head.the-variants as head
-use Rattle.fields.specs.declared.Span.{Span}
-use Rattle.fields.specs.declared.Span.the-variants as span
-use Rattle.fields.specs.declared.NameRead.{NameRead}
-use Rattle.fields.specs.declared.NameRead.the-variants as name
 use Rattle.fields.specs.declared.FlagRead.{FlagRead}
 use Rattle.fields.specs.declared.FlagRead.the-variants as flag
-use Rattle.fields.specs.Bytes.{pick, headOf, listOf, nameOf, flagOf}
+use Rattle.fields.specs.Bytes.{Head, Span, pick, headOf, listOf, nameOf, flagOf}
 use Rattle.fields.specs.Kinds.{nodeKind, kindOf}
 use Rattle.fields.proofs.Laws.{head-fits}
 use Rattle.names.specs.Words.{_∈_}
@@ -123,12 +117,12 @@ module _ (f : Reader) where
       by-head : (r : Head) → headOf (x ∷ s) ≡ r
           → ((m : ℕ) → ends (records f (drop (5 + m) (x ∷ s))) ≡ well → (ks : List ℕ) × Kinds ks (drop (5 + m) (x ∷ s)))
           → ends (frontAt r f (records f) (x ∷ s)) ≡ well → (ks : List ℕ) × Kinds ks (x ∷ s)
-      by-head (head.Piece kind m) e later g =
+      by-head (Head.Piece kind m) e later g =
           let t = f kind (take m (drop 5 (x ∷ s))) in
           let u = records f (drop (5 + m) (x ∷ s)) in
           let rest = later m (sym (ends-shift (5 + m) u) ∙ second-well (ends t) _ (sym (ends-then t (shift (5 + m) u)) ∙ g)) in
           (kind ∷ rest .0, (m, e, rest .1))
-      by-head head.Cut e later g = let z : _≡_ {A = ℕ} 0 1 = cc in absurd (omega arith)
+      by-head (Head.Refused x) e later g = let z : _≡_ {A = ℕ} 0 1 = cc in absurd (omega arith)
 
   pub kinds-of : (s : List ℕ) → ends (records f s) ≡ well → (ks : List ℕ) × Kinds ks s
   kinds-of s good = kinds-in (length s) s (omega arith) good
@@ -189,7 +183,7 @@ unfolding listedAt ends
 list-read f k s good = by-span (listOf s) refl good
   where
     by-span : (r : Span) → listOf s ≡ r → ends (listedAt r f k s) ≡ well → ListRead f k s (listedAt r f k s)
-    by-span (span.Bytes n) e g =
+    by-span (Span.Bytes n) e g =
         let t = shift 4 (records f (take n (drop 4 s))) in
         let u = k (drop (4 + n) s) in
         record {
@@ -199,7 +193,7 @@ list-read f k s good = by-span (listOf s) refl good
           rest-well = sym (ends-shift (4 + n) u) ∙ second-well (ends t) _ (sym (ends-then t (shift (4 + n) u)) ∙ g);
           trace = refl;
         }
-    by-span span.Cut e g = let z : _≡_ {A = ℕ} 0 1 = cc in absurd (omega arith)
+    by-span (Span.Refused x) e g = let z : _≡_ {A = ℕ} 0 1 = cc in absurd (omega arith)
 
 -- a condition list and a node list and nothing more, read well
 record ListsRead (f : Role → Reader) (s : List ℕ) (t : Trace) : Type 0 where
@@ -253,10 +247,10 @@ module _ (f : Role → Reader) (payload : List ℕ) where
   unfolding bodyOf flaggedAt namedAt shift ends
   choice-read good = by-flag (flagOf payload) refl
     where
-      by-name : (r : NameRead) → nameOf (drop 1 payload) ≡ r → flagOf payload ≡ flag.On → ChoiceRead f payload
-      by-name (name.Bytes n) p e =
+      by-name : (r : Span) → nameOf (drop 1 payload) ≡ r → flagOf payload ≡ flag.On → ChoiceRead f payload
+      by-name (Span.Bytes n) p e =
           labelled-read (1 + (1 + n)) (drop (1 + n) (drop 1 payload)) (inr (e, (n, p, refl))) (rw (e, p) (shift-shift 1 (1 + n) (options f (drop (1 + n) (drop 1 payload))))) good
-      by-name (name.Refused x) p e = let g = rw (e, p) at good in let z : _≡_ {A = ℕ} 0 1 = cc in absurd (omega arith)
+      by-name (Span.Refused x) p e = let g = rw (e, p) at good in let z : _≡_ {A = ℕ} 0 1 = cc in absurd (omega arith)
 
       by-flag : (r : FlagRead) → flagOf payload ≡ r → ChoiceRead f payload
       by-flag flag.Off e = labelled-read 1 (drop 1 payload) (inl (e, refl)) (rw e) good

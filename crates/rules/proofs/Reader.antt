@@ -6,14 +6,12 @@ use native.Mathlib.Omega.{arith}
 use lib.Dec.{eqb}
 use lib.ListN.{length, getD, take, drop}
 use lib.Seq.{getD-take, drop-drop}
-use Rattle.fields.specs.declared.Span.{Span}
-use Rattle.fields.specs.declared.Span.the-variants as span
-use Rattle.fields.specs.Bytes.{listOf}
+use Rattle.fields.specs.declared.Reach.the-variants as reach
+use Rattle.fields.specs.Bytes.{Span, listOf}
 use Rattle.records.specs.Trace.{well, ends}
 use Rattle.records.specs.Grammar as grammar
 use Rattle.story.specs.declared.Sections.{Sections}
 use Rattle.story.specs.declared.Opened.the-variants as opened
-use Rattle.story.specs.declared.Reach.the-variants as reach
 use Rattle.story.specs.declared.Heading.{Heading}
 use Rattle.story.specs.Story.{words}
 use Rattle.records.specs.Items.{nameIn}
@@ -49,8 +47,8 @@ module _ {A B C : Type 0} (g : grammar.Reading) (f : ℕ → List ℕ → A) (h 
       by-span : (r : Span) → r ≡ listOf t
           → ((k : ℕ) → ends (grammar.repeat (piece g) (drop (4 + k) t)) ≡ well → map p (piecesN n f (a + (4 + k)) (drop (4 + k) t)) ≡ map q (piecesN n (λ (at : ℕ) (s : List ℕ). h s) (b + (4 + k)) (drop (4 + k) t)))
           → map p (piecesAt r f (piecesN n f) a t) ≡ map q (piecesAt r (λ (at : ℕ) (s : List ℕ). h s) (piecesN n (λ (at : ℕ) (s : List ℕ). h s)) b t)
-      by-span (span.Bytes k) e later = ap₂ _∷_ (same a (take k (drop 4 t)) (file.piece-first g t good k e refl)) (later k (file.piece-rest g t good k e refl))
-      by-span span.Cut e later = refl
+      by-span (Span.Bytes k) e later = ap₂ _∷_ (same a (take k (drop 4 t)) (file.piece-first g t good k e refl)) (later k (file.piece-rest g t good k e refl))
+      by-span (Span.Refused x) e later = refl
 
   pieces-read : (at : ℕ) (t : List ℕ) → ends (grammar.repeat (piece g) t) ≡ well → map p (piecesIn f at t) ≡ map q (piecesBy h t)
   unfolding piecesIn

@@ -9,11 +9,8 @@ use Rattle.fields.specs.declared.Role.{Role}
 use Rattle.fields.specs.declared.Role.the-variants.{Node, Branch, Cond, Visited, Argument}
 use Rattle.fields.specs.declared.Body.{Body}
 use Rattle.fields.specs.declared.Kinded.the-variants.{Known}
-use Rattle.fields.specs.declared.Head.the-variants as head
-use Rattle.fields.specs.declared.Span.the-variants as span
-use Rattle.fields.specs.declared.NameRead.the-variants as name
 use Rattle.fields.specs.declared.FlagRead.the-variants as flag
-use Rattle.fields.specs.Bytes.{headOf, listOf, nameOf, flagOf}
+use Rattle.fields.specs.Bytes.{Head, Span, headOf, listOf, nameOf, flagOf}
 use Rattle.fields.specs.Kinds.{kindOf}
 use Rattle.names.specs.Words.{_∈_}
 use Rattle.records.specs.Trace.{done, emit, Record, met}
@@ -72,11 +69,11 @@ pub record InBranch (rs : List Record) (r : Record) : Type 0 where
 
 -- a name, and what follows it
 abbrev pub NameThen : List ℕ → List ℕ → Type 0
-NameThen s rest = (n : ℕ) × (nameOf s ≡ name.Bytes n) × (rest ≡ drop (1 + n) s)
+NameThen s rest = (n : ℕ) × (nameOf s ≡ Span.Bytes n) × (rest ≡ drop (1 + n) s)
 
 -- a list with these bytes inside, and what follows it
 abbrev pub ListThen : List ℕ → List ℕ → List ℕ → Type 0
-ListThen s inside rest = (n : ℕ) × (listOf s ≡ span.Bytes n) × (inside ≡ take n (drop 4 s)) × (rest ≡ drop (4 + n) s)
+ListThen s inside rest = (n : ℕ) × (listOf s ≡ Span.Bytes n) × (inside ≡ take n (drop 4 s)) × (rest ≡ drop (4 + n) s)
 
 -- a flag, a label name if it is 1, and what follows
 abbrev pub LabelThen : List ℕ → List ℕ → Type 0
@@ -93,7 +90,7 @@ pub record ChoiceOf (payload conditions body : List ℕ) : Type 0 where
 -- records of these kinds, one after the other, and nothing more
 abbrev pub Kinds : List ℕ → List ℕ → Type 0
 Kinds [] s = s ≡ []
-Kinds (kind ∷ kinds) s = (n : ℕ) × (headOf s ≡ head.Piece kind n) × Kinds kinds (drop (5 + n) s)
+Kinds (kind ∷ kinds) s = (n : ℕ) × (headOf s ≡ Head.Piece kind n) × Kinds kinds (drop (5 + n) s)
 
 -- Divert, TunnelReturn, TunnelOnwardsWithTarget, ReturnBool and ReturnExpr
 abbrev pub leavingKinds : List ℕ

@@ -1,6 +1,6 @@
 -- Flows by their names. Assumes nothing.
 use mathlib.Core.Path.{_≡_, refl, _∙_}
-use mathlib.Core.List.{List}
+use mathlib.Core.List.{List, _∷_}
 use mathlib.Core.Bool.{Bool, true, false}
 use Prim.Native.Nat.{ℕ, zero, suc, _+_, _-_}
 use lib.Dec.{eqb}
@@ -8,10 +8,11 @@ use native.Mathlib.Omega.{arith}
 use borrow.Author.Tests.{eq-eqb, ne-eqb}
 use lib.ListN.{length, getD, take, drop, List·getD-eq-default}
 use lib.Seq.{drop-drop}
-use Rattle.fields.specs.declared.Span.{Span}
-use Rattle.fields.specs.declared.Span.the-variants as span
-use Rattle.fields.specs.Bytes.{listOf}
-use Rattle.fields.proofs.Laws.{to-end, part}
+use Rattle.fields.specs.declared.Refusal.{Refusal}
+use Rattle.fields.specs.declared.Reach.{Reach}
+use Rattle.fields.specs.declared.Reach.the-variants as reach
+use Rattle.fields.specs.Bytes.{Span, listOf, spanReach}
+use Rattle.fields.proofs.Laws.{span-to, span-refused, to-end}
 use Rattle.names.specs.Words.{Bytes, same, any}
 use Rattle.names.specs.Counted.{nameAt}
 use Rattle.story.specs.declared.HeadingRead.{HeadingRead}
@@ -20,7 +21,7 @@ use Rattle.story.specs.Headings.{headingOf}
 use Rattle.records.specs.Items.{nameIn}
 use Rattle.story.specs.Flows.{titledAt, titledIn, piecesAt, piecesN, piecesIn, flowIn, flowsIn}
 use Rattle.story.proofs.Alike.{same-flow}
-use Rattle.story.proofs.Unfolding.{pieces-in-step, pieces-in-cut}
+use Rattle.story.proofs.Unfolding.{pieces-in-step, pieces-in-refused}
 use Rattle.searches.specs.Called.{calledAs}
 
 -- a test that does not depend on the place of a piece does not depend on where the pieces begin
@@ -33,8 +34,8 @@ module _ {A : Type 0} (p : A → Bool) (f : ℕ → List ℕ → A) (free : (a b
       by-span : (r : Span)
           → ((l : ℕ) → any p (piecesN n f (a + (4 + l)) (drop (4 + l) s)) ≡ any p (piecesN n f (b + (4 + l)) (drop (4 + l) s)))
           → any p (piecesAt r f (piecesN n f) a s) ≡ any p (piecesAt r f (piecesN n f) b s)
-      by-span (span.Bytes l) more = rw (free a b (take l (drop 4 s)), more l)
-      by-span span.Cut more = refl
+      by-span (Span.Bytes l) more = rw (free a b (take l (drop 4 s)), more l)
+      by-span (Span.Refused x) more = refl
 
   pub any-pieces : (a b : ℕ) (s : List ℕ) → any p (piecesIn f a s) ≡ any p (piecesIn f b s)
   unfolding piecesIn
@@ -79,15 +80,19 @@ module _ (n : Bytes) (s : List ℕ) {function : Bool} where
 
 -- the answers of the search
 module _ (b : Bool) (n : Bytes) (s : List ℕ) where
-  pub flows-none : {l : Span} → l ≡ listOf s → l ≡ span.Cut → false ≡ any (calledAs b n) (flowsIn 0 s)
+  pub flows-none : (x : Refusal) {l : Reach} → l ≡ spanReach 4 (listOf s) → l ≡ reach.Refused x → false ≡ any (calledAs b n) (flowsIn 0 s)
   unfolding flowsIn
-  flows-none e q = rw (pieces-in-cut flowIn 0 s e q)
+  flows-none x e q = rw (pieces-in-refused flowIn 0 s refl (span-refused 4 (listOf s) e x q))
 
-  module _ (k : ℕ) {l : Span} (e : l ≡ listOf s) (q : l ≡ span.Bytes k) {r : Bool} (t : r ≡ calledAs b n (flowIn 0 (take (4 + k - 4) (drop 4 s)))) where
+  module _ (to : ℕ) {l : Reach} (e : l ≡ spanReach 4 (listOf s)) (q : l ≡ reach.To to) {r : Bool} (t : r ≡ calledAs b n (flowIn 0 (take (to - 4) (drop 4 s)))) where
+    step : flowsIn 0 s ≡ flowIn 0 (take (to - 4) (drop 4 s)) ∷ flowsIn (0 + to) (drop to s)
+    unfolding flowsIn
+    step =
+        let h = span-to 4 (listOf s) e to q in
+        rw (h .1) at (pieces-in-step flowIn 0 (to - 4) s refl (h .0))
+
     pub flow-found : r ≡ true → true ≡ any (calledAs b n) (flowsIn 0 s)
-    unfolding flowsIn
-    flow-found g = rw (pieces-in-step flowIn 0 k s e q, ← part 4 k s, ← t, g)
+    flow-found g = rw (step, ← t, g)
 
-    pub flow-passed : r ≡ false → any (calledAs b n) (flowsIn 0 s) ≡ any (calledAs b n) (flowsIn 0 (take (length s - (4 + k)) (drop (4 + k) s)))
-    unfolding flowsIn
-    flow-passed g = rw (pieces-in-step flowIn 0 k s e q, ← part 4 k s, ← t, g, to-end (4 + k) s) (any-flows b n (0 + (4 + k)) 0 (drop (4 + k) s))
+    pub flow-passed : r ≡ false → any (calledAs b n) (flowsIn 0 s) ≡ any (calledAs b n) (flowsIn 0 (take (length s - to) (drop to s)))
+    flow-passed g = rw (step, ← t, g, to-end to s) (any-flows b n (0 + to) 0 (drop to s))

@@ -6,13 +6,11 @@ use native.Mathlib.Nat.{add-zero}
 use native.Mathlib.Omega.{arith}
 use lib.ListN.{length, getD, take, drop, length-take}
 use lib.Seq.{take-take, drop-drop, getD-take, getD-drop}
-use Rattle.fields.specs.declared.NameRead.{NameRead}
-use Rattle.fields.specs.declared.NameRead.the-variants as name
-use Rattle.fields.specs.Bytes.{nameOf}
+use Rattle.fields.specs.declared.Reach.the-variants as reach
+use Rattle.fields.specs.Bytes.{Span, nameOf}
 use Rattle.fields.proofs.Laws.{name-fits}
 use Rattle.names.specs.Counted.{nameAt}
 use Rattle.records.proofs.Places.{drop-take}
-use Rattle.story.specs.declared.Reach.the-variants as reach
 use Rattle.story.specs.Headings.{reachAt, namesReach, countedReach}
 use Rattle.records.specs.Items.{nameIn}
 use Rattle.story.specs.Flows.{namesN, countedIn, part}
@@ -63,7 +61,7 @@ past-first : (k x : ℕ) (s : List ℕ) → drop (1 + k) (x ∷ s) ≡ drop k s
 past-first k x s = let one : 1 + k ≡ suc k = omega arith in rw one
 
 -- the first of several names
-name-step : (n a m : ℕ) (w : List ℕ) (k : ℕ) → name.Bytes k ≡ nameOf (take m w)
+name-step : (n a m : ℕ) (w : List ℕ) (k : ℕ) → Span.Bytes k ≡ nameOf (take m w)
     → namesN n (a + (1 + k)) (drop (1 + k) (take m w)) ≡ namesN n (a + (1 + k)) (drop (1 + k) w) → namesN (suc n) a (take m w) ≡ namesN (suc n) a w
 unfolding namesN
 name-step n a zero w k e more = absurd (omega (arith, name-fits [] k e refl))
@@ -80,16 +78,16 @@ unfolding namesReach reachAt namesN
 names-whole zero m a at u q = refl
 names-whole (suc n) m a at u {e} q = by-name (nameOf (drop at (take m u))) refl (λ k. names-whole n m (a + (1 + k)) (at + (1 + k)) u) q
   where
-    by-name : (r : NameRead) → r ≡ nameOf (drop at (take m u))
+    by-name : (r : Span) → r ≡ nameOf (drop at (take m u))
         → ((k : ℕ) → namesReach (take m u) n (at + (1 + k)) ≡ reach.To e
         → namesN n (a + (1 + k)) (drop (at + (1 + k)) (take m u)) ≡ namesN n (a + (1 + k)) (drop (at + (1 + k)) u))
         → reachAt r (namesReach (take m u) n) at ≡ reach.To e → namesN (suc n) a (drop at (take m u)) ≡ namesN (suc n) a (drop at u)
-    by-name (name.Bytes k) p more q =
+    by-name (Span.Bytes k) p more q =
         let cut = drop-take at m u in
         rw cut
         (name-step n a (m - at) (drop at u) k (rw cut at p)
         (rw (← cut, drop-drop (1 + k) at (take m u), drop-drop (1 + k) at u) (more k q)))
-    by-name (name.Refused r) p more q = let z : _≡_ {A = ℕ} 0 1 = cc in absurd (omega arith)
+    by-name (Span.Refused r) p more q = let z : _≡_ {A = ℕ} 0 1 = cc in absurd (omega arith)
 
 pub counted-whole : (m a at : ℕ) (u : List ℕ) {e : ℕ} → countedReach (take m u) at ≡ reach.To e → countedIn a (drop at (take m u)) ≡ countedIn a (drop at u)
 unfolding countedIn
@@ -102,7 +100,7 @@ counted-whole m a at u q =
 -- 3. Names that stand whole in a part of the file
 
 module _ (file : List ℕ) (p e : ℕ) where
-  pub name-in-part : (k : ℕ) → nameOf (part p e file) ≡ name.Bytes k → nameIn (part p e file) ≡ nameAt file p
+  pub name-in-part : (k : ℕ) → nameOf (part p e file) ≡ Span.Bytes k → nameIn (part p e file) ≡ nameAt file p
   unfolding part nameIn nameAt
   name-in-part k told =
       let fits = name-fits (take (e - p) (drop p file)) k refl told in

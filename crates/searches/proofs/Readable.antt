@@ -3,10 +3,7 @@ use mathlib.Core.Path.{_≡_, refl, sym, _∙_}
 use mathlib.Core.List.{List, []}
 use Prim.Native.Nat.{ℕ, _+_}
 use native.Mathlib.Omega.{arith}
-use lib.ListN.{length}
-use Rattle.fields.specs.declared.Span.{Span}
-use Rattle.fields.specs.declared.Span.the-variants as span
-use Rattle.fields.specs.Bytes.{listOf}
+use Rattle.fields.specs.Bytes.{Span, listOf}
 use Rattle.records.specs.Trace.{well, ends}
 use Rattle.records.specs.Grammar.{Reading, repeat, ending, nodes}
 use Rattle.story.specs.declared.Heading.{Heading}
@@ -15,7 +12,7 @@ use Rattle.story.specs.declared.HeadingRead.the-variants as heading
 use Rattle.story.specs.Headings.{headingOf}
 use Rattle.story.specs.Flows.{part, titled, stitch, flow, flows, piece, piecesIn, stitchIn, flowIn, flowsIn, stitches}
 use Rattle.story.proofs.Readable.{TitledWell, titled-well, titled-heading, piece-first, piece-rest, flow-titled}
-use Rattle.story.proofs.Unfolding.{pieces-in-cut}
+use Rattle.story.proofs.Unfolding.{pieces-in-refused}
 use Rattle.searches.specs.declared.views.StitchView.{StitchView}
 use Rattle.searches.specs.declared.views.StitchViewRead.{StitchViewRead}
 use Rattle.searches.specs.declared.views.StitchViewRead.the-variants as stitch-view
@@ -52,7 +49,7 @@ module _ (file : List ℕ) (p e : ℕ) (k : Reading) (good : ends (titled k (par
 
 -- 2. Pieces: the first, and those after it
 
-module _ (g : Reading) (file : List ℕ) (at end n : ℕ) (read : span.Bytes n ≡ listOf (part at end file))
+module _ (g : Reading) (file : List ℕ) (at end n : ℕ) (read : Span.Bytes n ≡ listOf (part at end file))
     (good : ends (repeat (piece g) (part at end file)) ≡ well) where
   piece-good : ends (g (part (at + 4) (at + (4 + n)) file)) ≡ well
   piece-good = rw (← part-piece n at end file (part-fits file at end n read)) (piece-first g (part at end file) good n read refl)
@@ -74,8 +71,8 @@ module _ (file : List ℕ) (at end : ℕ) (good : ends (stitches (part at end fi
   no-stitch q = by-span (listOf (part at end file)) refl (sym told ∙ q)
     where
       by-span : (x : Span) → x ≡ listOf (part at end file) → stitchViewAt x file at ≡ stitch-view.None → piecesIn stitchIn at (part at end file) ≡ []
-      by-span (span.Bytes n) read q = absurd (title-missing file (at + 4) (at + (4 + n)) ending (piece-good stitch file at end n read good) q)
-      by-span span.Cut read q = pieces-in-cut stitchIn at (part at end file) read refl
+      by-span (Span.Bytes n) read q = absurd (title-missing file (at + 4) (at + (4 + n)) ending (piece-good stitch file at end n read good) q)
+      by-span (Span.Refused x) read q = pieces-in-refused stitchIn at (part at end file) read refl
 
   pub stitch-readable : (v : StitchView) → r ≡ stitch-view.View v → GoodStitch file end v
   unfolding stitch
@@ -94,7 +91,7 @@ pub record GoodFlow (file : List ℕ) (end : ℕ) (v : FlowView) : Type 0 where
   pub rest : ends (flows (part (v .end) end file)) ≡ well
 
 module _ (file : List ℕ) (at end : ℕ) (good : ends (flows (part at end file)) ≡ well) {r : FlowViewRead} (told : r ≡ flowViewOf file at end) where
-  own-good : (n : ℕ) → span.Bytes n ≡ listOf (part at end file) → ends (titled stitches (part (at + 5) (at + (4 + n)) file)) ≡ well
+  own-good : (n : ℕ) → Span.Bytes n ≡ listOf (part at end file) → ends (titled stitches (part (at + 5) (at + (4 + n)) file)) ≡ well
   unfolding flows
   own-good n read =
       let one : at + 4 + 1 ≡ at + 5 = omega arith in
@@ -106,13 +103,13 @@ module _ (file : List ℕ) (at end : ℕ) (good : ends (flows (part at end file)
   unfolding flowViewOf flowViewAt flaggedView flowsIn
   no-flow q = by-span (listOf (part at end file)) refl (sym told ∙ q)
     where
-      by-title : (n : ℕ) (x : StitchViewRead) → span.Bytes n ≡ listOf (part at end file) → x ≡ titleViewOf file (at + 5) (at + (4 + n)) → flaggedView x file at ≡ flow-view.None → ⊥
+      by-title : (n : ℕ) (x : StitchViewRead) → Span.Bytes n ≡ listOf (part at end file) → x ≡ titleViewOf file (at + 5) (at + (4 + n)) → flaggedView x file at ≡ flow-view.None → ⊥
       by-title n (stitch-view.View v) read title q = let z : _≡_ {A = ℕ} 0 1 = cc in omega arith
       by-title n stitch-view.None read title q = title-missing file (at + 5) (at + (4 + n)) stitches (own-good n read) (sym title)
 
       by-span : (x : Span) → x ≡ listOf (part at end file) → flowViewAt x file at ≡ flow-view.None → piecesIn flowIn at (part at end file) ≡ []
-      by-span (span.Bytes n) read q = absurd (by-title n (titleViewOf file (at + 5) (at + (4 + n))) read refl q)
-      by-span span.Cut read q = pieces-in-cut flowIn at (part at end file) read refl
+      by-span (Span.Bytes n) read q = absurd (by-title n (titleViewOf file (at + 5) (at + (4 + n))) read refl q)
+      by-span (Span.Refused x) read q = pieces-in-refused flowIn at (part at end file) read refl
 
   pub flow-readable : (v : FlowView) → r ≡ flow-view.View v → GoodFlow file end v
   unfolding flows

@@ -5,15 +5,16 @@ use Prim.Native.Nat.{ℕ, _+_, _-_, _≤_, _<_}
 use native.Mathlib.Omega.{arith}
 use lib.Dec.{eqb}
 use lib.ListN.{length, getD, take, drop, length-take}
-use Rattle.fields.specs.declared.Span.{Span}
-use Rattle.fields.specs.declared.Span.the-variants as span
-use Rattle.fields.specs.Bytes.{listOf, nameOf}
-use Rattle.fields.proofs.Laws.{list-fits}
+use Rattle.fields.specs.declared.Refusal.{Refusal}
+use Rattle.fields.specs.declared.Reach.{Reach}
+use Rattle.fields.specs.declared.Reach.the-variants as reach
+use Rattle.fields.specs.Bytes.{Span, listOf, nameOf, spanReach}
+use Rattle.fields.proofs.Laws.{list-fits, list-within, span-to, span-refused}
 use Rattle.story.specs.declared.Heading.{Heading}
 use Rattle.story.specs.declared.HeadingRead.{HeadingRead}
 use Rattle.story.specs.declared.HeadingRead.the-variants as heading
 use Rattle.story.specs.Headings.{nameThen, headingOf}
-use Rattle.story.specs.Flows.{part, titledAt, titledIn, piecesIn, stitchIn, stitchesFrom, flowIn, flowsIn}
+use Rattle.story.specs.Flows.{part, titledAt, titledIn, piecesIn, stitchIn, titleEnd, flowIn, flowsIn}
 use Rattle.story.proofs.Reaches.{heading-laid}
 use Rattle.story.proofs.Unfolding.{pieces-in-step}
 use Rattle.searches.specs.declared.views.StitchView.{StitchView}
@@ -44,7 +45,7 @@ pub record Titled (file : List ℕ) (p e : ℕ) (v : StitchView) : Type 0 where
   pub name : v .name ≡ p
   pub end : v .end ≡ e
   pub order : ViewOrder v
-  pub nodes : p + stitchesFrom (headingOf (part p e file)) ≡ v .to
+  pub nodes : p + titleEnd (headingOf (part p e file)) ≡ v .to
   pub stands : titledIn p (part p e file) ≡ viewedStitch file v
 
 module _ (file : List ℕ) (p e : ℕ) where
@@ -54,7 +55,7 @@ module _ (file : List ℕ) (p e : ℕ) where
       omega (arith, laid .some, laid .params, laid .marks, laid .nodes, laid .within, part-short p e file)
 
   heading-viewed : (h : Heading) → headingOf (part p e file) ≡ heading.At h → Titled file p e (places h p e)
-  unfolding titledIn titledAt stitchesFrom
+  unfolding titledIn titledAt titleEnd
   heading-viewed h read =
       let laid = heading-laid (part p e file) h refl read in
       let fits = heading-fits h read in
@@ -97,20 +98,43 @@ unfolding titleViewOf titleViewAt headingOf nameOf nameThen
 title-none file p e h = rw (part-none p e file h)
 
 -- a piece ends within what it is read from
-pub piece-fits : (file : List ℕ) (at end n : ℕ) {r : Span} → r ≡ listOf (take (end - at) (drop at file)) → r ≡ span.Bytes n → at + (4 + n) ≤ end
-piece-fits file at end n told q =
-    omega (arith, list-fits (take (end - at) (drop at file)) n told q, length-take (end - at) (drop at file))
-
-pub part-fits : (file : List ℕ) (at end n : ℕ) → span.Bytes n ≡ listOf (part at end file) → at + (4 + n) ≤ end
+pub part-fits : (file : List ℕ) (at end n : ℕ) → Span.Bytes n ≡ listOf (part at end file) → at + (4 + n) ≤ end
 unfolding part
-part-fits file at end n told = piece-fits file at end n told refl
+part-fits file at end n told =
+    omega (arith, list-fits (take (end - at) (drop at file)) n told refl, length-take (end - at) (drop at file))
+
+-- the views, as the code learns how far a piece reaches
+module _ (file : List ℕ) (at end : ℕ) {r : Reach} (told : r ≡ spanReach 4 (listOf (take (end - at) (drop at file)))) where
+  pub piece-within : (to : ℕ) → r ≡ reach.To to → (4 ≤ to) × (at + to ≤ end)
+  piece-within to q = omega (arith, list-within (take (end - at) (drop at file)) to told q, length-take (end - at) (drop at file))
+
+  pub stitch-view-at : (to : ℕ) → r ≡ reach.To to → stitchViewOf file at end ≡ titleViewOf file (at + 4) (at + to)
+  unfolding stitchViewOf stitchViewAt part
+  stitch-view-at to q =
+      let h = span-to 4 (listOf (take (end - at) (drop at file))) told to q in
+      rw (h .0, h .1)
+
+  pub flow-view-at : (to : ℕ) → r ≡ reach.To to → flowViewOf file at end ≡ flaggedView (titleViewOf file (at + 5) (at + to)) file at
+  unfolding flowViewOf flowViewAt part
+  flow-view-at to q =
+      let h = span-to 4 (listOf (take (end - at) (drop at file))) told to q in
+      rw (h .0, h .1)
+
+  module _ (x : Refusal) (q : r ≡ reach.Refused x) where
+    pub stitch-view-none : stitch.None ≡ stitchViewOf file at end
+    unfolding stitchViewOf stitchViewAt part
+    stitch-view-none = rw (span-refused 4 (listOf (take (end - at) (drop at file))) told x q)
+
+    pub flow-view-none : flow.None ≡ flowViewOf file at end
+    unfolding flowViewOf flowViewAt part
+    flow-view-none = rw (span-refused 4 (listOf (take (end - at) (drop at file))) told x q)
 
 -- 2. Stitches
 
 -- a stitch was seen: its length, and what stands after it
 pub record StitchSeen (file : List ℕ) (at end : ℕ) (v : StitchView) : Type 0 where
   pub n : ℕ
-  pub length : span.Bytes n ≡ listOf (part at end file)
+  pub length : Span.Bytes n ≡ listOf (part at end file)
   pub title : titleViewOf file (at + 4) (at + (4 + n)) ≡ stitch.View v
 
 -- the stitch's parts stand in this order, within what it is read from
@@ -123,7 +147,7 @@ pub record StitchLaid (at end : ℕ) (v : StitchView) : Type 0 where
   pub to : v .to ≤ v .end
   pub within : v .end ≤ end
 
-stitch-first : (file : List ℕ) (at end n : ℕ) (v : StitchView) → span.Bytes n ≡ listOf (part at end file) → titleViewOf file (at + 4) (at + (4 + n)) ≡ stitch.View v
+stitch-first : (file : List ℕ) (at end n : ℕ) (v : StitchView) → Span.Bytes n ≡ listOf (part at end file) → titleViewOf file (at + 4) (at + (4 + n)) ≡ stitch.View v
     → piecesIn stitchIn at (part at end file) ≡ viewedStitch file v ∷ piecesIn stitchIn (v .end) (part (v .end) end file)
 unfolding stitchIn
 stitch-first file at end n v read title =
@@ -137,8 +161,8 @@ module _ (file : List ℕ) (at end : ℕ) (v : StitchView) {r : StitchViewRead} 
   stitch-seen = by-span (listOf (part at end file)) refl (sym told ∙ given)
     where
       by-span : (x : Span) → x ≡ listOf (part at end file) → stitchViewAt x file at ≡ stitch.View v → StitchSeen file at end v
-      by-span (span.Bytes n) read q = record { n = n; length = read; title = q }
-      by-span span.Cut read q = let z : _≡_ {A = ℕ} 0 1 = cc in absurd (omega arith)
+      by-span (Span.Bytes n) read q = record { n = n; length = read; title = q }
+      by-span (Span.Refused x) read q = let z : _≡_ {A = ℕ} 0 1 = cc in absurd (omega arith)
 
   pub stitch-viewed : piecesIn stitchIn at (part at end file) ≡ viewedStitch file v ∷ piecesIn stitchIn (v .end) (part (v .end) end file)
   stitch-viewed = stitch-first file at end (stitch-seen .n) v (stitch-seen .length) (stitch-seen .title)
@@ -177,7 +201,7 @@ flowPlaces file at v = record {
 -- a flow was seen: its length, and what stands after its flag
 pub record FlowSeen (file : List ℕ) (at end : ℕ) (v : FlowView) : Type 0 where
   pub n : ℕ
-  pub length : span.Bytes n ≡ listOf (part at end file)
+  pub length : Span.Bytes n ≡ listOf (part at end file)
   pub own : StitchView
   pub title : titleViewOf file (at + 5) (at + (4 + n)) ≡ stitch.View own
   pub places : flowPlaces file at own ≡ v
@@ -198,14 +222,14 @@ flow-stands : (file : List ℕ) (at e : ℕ) (v : StitchView) → Titled file (a
 unfolding flowIn
 flow-stands file at e v t =
     let one : at + 4 + 1 ≡ at + 5 = omega arith in
-    let rest = stitchesFrom (headingOf (part (at + 5) e file)) in
+    let rest = titleEnd (headingOf (part (at + 5) e file)) in
     let from : at + 4 + (1 + rest) ≡ v .to = omega (arith, t .nodes) in
     let place : at + (5 + rest) ≡ v .to = omega (arith, t .nodes) in
     let o = t .order in
     let after : at + 4 < e = omega (arith, t .name, t .end) in
     rw (part-drop 1 (at + 4) e file, one, part-drop (1 + rest) (at + 4) e file, from, place, part-first (at + 4) e file after, t .stands, t .end)
 
-flow-first : (file : List ℕ) (at end n : ℕ) (own : StitchView) (v : FlowView) → span.Bytes n ≡ listOf (part at end file)
+flow-first : (file : List ℕ) (at end n : ℕ) (own : StitchView) (v : FlowView) → Span.Bytes n ≡ listOf (part at end file)
     → titleViewOf file (at + 5) (at + (4 + n)) ≡ stitch.View own → flowPlaces file at own ≡ v
     → flowsIn at (part at end file) ≡ viewedFlow file v ∷ flowsIn (v .end) (part (v .end) end file)
 unfolding flowsIn
@@ -219,14 +243,14 @@ module _ (file : List ℕ) (at end : ℕ) (v : FlowView) {r : FlowViewRead} (tol
   unfolding flowViewOf flowViewAt flaggedView
   flow-seen = by-span (listOf (part at end file)) refl (sym told ∙ given)
     where
-      by-title : (n : ℕ) (x : StitchViewRead) → span.Bytes n ≡ listOf (part at end file) → x ≡ titleViewOf file (at + 5) (at + (4 + n)) → flaggedView x file at ≡ flow.View v
+      by-title : (n : ℕ) (x : StitchViewRead) → Span.Bytes n ≡ listOf (part at end file) → x ≡ titleViewOf file (at + 5) (at + (4 + n)) → flaggedView x file at ≡ flow.View v
           → FlowSeen file at end v
       by-title n (stitch.View w) read title q = record { n = n; length = read; own = w; title = sym title; places = cc }
       by-title n stitch.None read title q = let z : _≡_ {A = ℕ} 0 1 = cc in absurd (omega arith)
 
       by-span : (x : Span) → x ≡ listOf (part at end file) → flowViewAt x file at ≡ flow.View v → FlowSeen file at end v
-      by-span (span.Bytes n) read q = by-title n (titleViewOf file (at + 5) (at + (4 + n))) read refl q
-      by-span span.Cut read q = let z : _≡_ {A = ℕ} 0 1 = cc in absurd (omega arith)
+      by-span (Span.Bytes n) read q = by-title n (titleViewOf file (at + 5) (at + (4 + n))) read refl q
+      by-span (Span.Refused x) read q = let z : _≡_ {A = ℕ} 0 1 = cc in absurd (omega arith)
 
   pub flow-viewed : flowsIn at (part at end file) ≡ viewedFlow file v ∷ flowsIn (v .end) (part (v .end) end file)
   flow-viewed = flow-first file at end (flow-seen .n) (flow-seen .own) v (flow-seen .length) (flow-seen .title) (flow-seen .places)

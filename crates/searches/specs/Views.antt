@@ -3,9 +3,7 @@ use Prim.Native.Nat.{ℕ, _+_}
 use mathlib.Core.List.{List}
 use lib.ListN.{getD, drop}
 use lib.Dec.{eqb}
-use Rattle.fields.specs.declared.Span.{Span}
-use Rattle.fields.specs.declared.Span.the-variants as span
-use Rattle.fields.specs.Bytes.{listOf}
+use Rattle.fields.specs.Bytes.{Span, listOf}
 use Rattle.names.specs.Counted.{nameAt}
 use Rattle.story.specs.declared.HeadingRead.{HeadingRead}
 use Rattle.story.specs.declared.HeadingRead.the-variants as heading
@@ -38,8 +36,8 @@ titleViewOf file p e = titleViewAt (headingOf (part p e file)) p e
 
 -- the stitch at the place, of this length
 unfoldable pub stitchViewAt : Span → List ℕ → ℕ → StitchViewRead
-stitchViewAt (span.Bytes n) file at = titleViewOf file (at + 4) (at + (4 + n))
-stitchViewAt span.Cut file at = stitch.None
+stitchViewAt (Span.Bytes n) file at = titleViewOf file (at + 4) (at + (4 + n))
+stitchViewAt (Span.Refused x) file at = stitch.None
 
 -- the stitch at the place, of those to the end
 unfoldable pub stitchViewOf : List ℕ → ℕ → ℕ → StitchViewRead
@@ -62,8 +60,8 @@ flaggedView stitch.None file at = flow.None
 
 -- the flow at the place, of this length
 unfoldable pub flowViewAt : Span → List ℕ → ℕ → FlowViewRead
-flowViewAt (span.Bytes n) file at = flaggedView (titleViewOf file (at + 5) (at + (4 + n))) file at
-flowViewAt span.Cut file at = flow.None
+flowViewAt (Span.Bytes n) file at = flaggedView (titleViewOf file (at + 5) (at + (4 + n))) file at
+flowViewAt (Span.Refused x) file at = flow.None
 
 -- the flow at the place, of those to the end
 unfoldable pub flowViewOf : List ℕ → ℕ → ℕ → FlowViewRead

@@ -7,7 +7,7 @@ ghost use Rattle.searches.specs.Called.{calledAs, isFlow, isFunction};
 
 pub mod views;
 
-use fields::Span;
+use fields::Reach;
 use fields::read_list;
 use names::name_at;
 use names::same_at;
@@ -74,10 +74,9 @@ fn flows_have(s: &[u8], name: &[u8], function: bool) -> bool
 {
     let mut t = s;
     loop {
-        let Span::Bytes(n) = read_list(t) else {
+        let Reach::To(e) = read_list(t) else {
             return false;
         };
-        let e = 4 + n;
         if is_called(&t[4..e], name, function) {
             return true;
         }

@@ -3,7 +3,7 @@ ghost use mathlib.Core.Path.{_≡_};
 ghost use Prim.Native.Nat.{_≤_};
 ghost use lib.ListN.{length};
 ghost use Rattle.searches.specs.Views.{titleViewOf, stitchViewOf, flowViewOf};
-use fields::Span;
+use fields::Reach;
 use fields::read_list;
 use story::HeadingRead;
 use story::headings::read_heading;
@@ -66,10 +66,10 @@ pub fn stitch_view(file: &[u8], at: usize, end: usize) -> StitchViewRead
     requires { ⌜ (at ≤ end) × (end ≤ length (now file)) ⌝ }
     ensures { λ r. ⌜ r ≡ stitchViewOf (now (file .entry)) at end ⌝ }
 {
-    let Span::Bytes(n) = read_list(&file[at..end]) else {
+    let Reach::To(e) = read_list(&file[at..end]) else {
         return StitchViewRead::None;
     };
-    title_view(file, at + 4, at + (4 + n))
+    title_view(file, at + 4, at + e)
 }
 
 // The flow at the place, of those to the end.
@@ -77,13 +77,13 @@ pub fn flow_view(file: &[u8], at: usize, end: usize) -> FlowViewRead
     requires { ⌜ (at ≤ end) × (end ≤ length (now file)) ⌝ }
     ensures { λ r. ⌜ r ≡ flowViewOf (now (file .entry)) at end ⌝ }
 {
-    let Span::Bytes(n) = read_list(&file[at..end]) else {
+    let Reach::To(e) = read_list(&file[at..end]) else {
         return FlowViewRead::None;
     };
-    if n == 0 {
+    if e == 4 {
         return FlowViewRead::None;
     }
-    let StitchViewRead::View(own) = title_view(file, at + 5, at + (4 + n)) else {
+    let StitchViewRead::View(own) = title_view(file, at + 5, at + e) else {
         return FlowViewRead::None;
     };
     FlowViewRead::View(FlowView {

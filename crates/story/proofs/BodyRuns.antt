@@ -9,8 +9,7 @@ use lib.Dec.{ltb}
 use lib.ListN.{length, take, drop, length-take, length-drop}
 use lib.Seq.{drop-drop}
 use borrow.Author.Tests.{ltb-true, ltb-false, lt-ltb, le-ltb}
-use Rattle.fields.specs.declared.Span.the-variants as span
-use Rattle.fields.specs.Bytes.{pick, listOf}
+use Rattle.fields.specs.Bytes.{Span, pick, listOf}
 use Rattle.fields.proofs.Laws.{list-fits}
 use Rattle.names.specs.Words.{each}
 use Rattle.records.specs.Trace.{Trace, done, refuse, emit, andThen, shift, met, Ending, well, refused, ends}
@@ -138,7 +137,7 @@ module _ (from to : ℕ) where
 -- 2. Pieces: those with places before the first one's end are its own, and the others are those of what follows it
 
 module _ {A : Type 0} (g : Reading) (f : ℕ → List ℕ → A) (items : A → List Item) (one : (b : ℕ) (s : List ℕ) → ends (g s) ≡ well → itemsOf (b + 4) (g s) ≡ items (f b s)) (places : Places g)
-    (at n : ℕ) (t : List ℕ) (long : listOf t ≡ span.Bytes n) (good : ends (repeat (piece g) t) ≡ well) (low : at + length t ≤ 1048576) where
+    (at n : ℕ) (t : List ℕ) (long : listOf t ≡ Span.Bytes n) (good : ends (repeat (piece g) t) ≡ well) (low : at + length t ≤ 1048576) where
   abbrev first : List ℕ
   first = take n (drop 4 t)
 

@@ -14,17 +14,11 @@ use Rattle.fields.specs.declared.Role.{Role}
 use Rattle.fields.specs.declared.Role.the-variants.{Node, Branch, Cond, Visited}
 use Rattle.fields.specs.declared.Body.{Body}
 use Rattle.fields.specs.declared.Body.the-variants as body
-use Rattle.fields.specs.declared.Head.{Head}
-use Rattle.fields.specs.declared.Head.the-variants as head
-use Rattle.fields.specs.declared.Span.{Span}
-use Rattle.fields.specs.declared.Span.the-variants as span
-use Rattle.fields.specs.declared.NameRead.{NameRead}
-use Rattle.fields.specs.declared.NameRead.the-variants as name
 use Rattle.fields.specs.declared.FlagRead.{FlagRead}
 use Rattle.fields.specs.declared.FlagRead.the-variants as flag
 use Rattle.fields.specs.declared.Kinded.{Kinded}
 use Rattle.fields.specs.declared.Kinded.the-variants as kinded
-use Rattle.fields.specs.Bytes.{pick, headOf, listOf, nameOf, flagOf}
+use Rattle.fields.specs.Bytes.{Head, Span, pick, le32At, headOf, listOf, nameOf, flagOf}
 use Rattle.fields.specs.Kinds.{kindOf}
 use Rattle.fields.proofs.Laws.{head-fits, list-fits, name-fits, off-fits, on-fits}
 use Rattle.records.specs.Trace.{Trace, done, refuse, emit, andThen, shift, Record, met}
@@ -39,15 +33,29 @@ pub data OfReading : Refusal → Type 0 where
   unknown : OfReading Unknown
   deep : OfReading Deep
 
--- a name is refused by 4
-name-refusal : (s : List ℕ) (r : Refusal) → nameOf s ≡ name.Refused r → OfReading r
+-- a name, a list and a head are refused by 4: two tests, and else the piece y, which no refusal is
+counted-refusal : {A : Type 0} (refuse-by : Refusal → A) (y : A) → ((r q : Refusal) → refuse-by r ≡ refuse-by q → r ≡ q) → ((r : Refusal) → y ≡ refuse-by r → ⊥)
+    → (i j : Bool) (r : Refusal) → pick i (refuse-by Short) (pick j (refuse-by Short) y) ≡ refuse-by r → OfReading r
+counted-refusal refuse-by y same other true j r f = rw (← same Short r f) short
+counted-refusal refuse-by y same other false true r f = rw (← same Short r f) short
+counted-refusal refuse-by y same other false false r f = absurd (other r f)
+
+span-refusal : (i j : Bool) (n : ℕ) (r : Refusal) → pick i (Span.Refused Short) (pick j (Span.Refused Short) (Span.Bytes n)) ≡ Span.Refused r → OfReading r
+span-refusal i j n r f = counted-refusal Span.Refused (Span.Bytes n) (λ x y e. cc) (λ x e. let z : _≡_ {A = ℕ} 0 1 = cc in omega arith) i j r f
+
+name-refusal : (s : List ℕ) (r : Refusal) → nameOf s ≡ Span.Refused r → OfReading r
 unfolding nameOf
-name-refusal s r e = by-tests (ltb (length s) 1) (ltb (length s - 1) (getD s 0 0)) e
-  where
-    by-tests : (a b : Bool) → pick a (name.Refused Short) (pick b (name.Refused Short) (name.Bytes (getD s 0 0))) ≡ name.Refused r → OfReading r
-    by-tests true b f = let same : Short ≡ r = cc in rw (← same) short
-    by-tests false true f = let same : Short ≡ r = cc in rw (← same) short
-    by-tests false false f = let z : _≡_ {A = ℕ} 0 1 = cc in absurd (omega arith)
+name-refusal s r e = span-refusal (ltb (length s) 1) (ltb (length s - 1) (getD s 0 0)) (getD s 0 0) r e
+
+list-refusal : (s : List ℕ) (r : Refusal) → listOf s ≡ Span.Refused r → OfReading r
+unfolding listOf
+list-refusal s r e = span-refusal (ltb (length s) 4) (ltb (length s - 4) (le32At s 0)) (le32At s 0) r e
+
+head-refusal : (s : List ℕ) (r : Refusal) → headOf s ≡ Head.Refused r → OfReading r
+unfolding headOf
+head-refusal s r e =
+    counted-refusal Head.Refused (Head.Piece (getD s 0 0) (le32At s 1)) (λ x y q. cc) (λ x q. let z : _≡_ {A = ℕ} 0 1 = cc in omega arith)
+    (ltb (length s) 5) (ltb (length s - 5) (le32At s 1)) r e
 
 -- a flag is refused by 4 or 5
 flag-refusal : (s : List ℕ) (r : Refusal) → flagOf s ≡ flag.Refused r → OfReading r
@@ -110,12 +118,12 @@ module _ (P : ℕ → ℕ → Trace → Trace → Type 0) (kept : KeptOfTwo P) w
   front-holds f g j k r h s = by-head (headOf s) refl
     where
       by-head : (x : Head) → headOf s ≡ x → P 0 (length s) (frontAt x f j s) (frontAt x g k s)
-      by-head (head.Piece kind n) e =
+      by-head (Head.Piece kind n) e =
           let fits : 5 + n ≤ length s = head-fits s kind n refl e in
           let inside = take n (drop 5 s) in
           kept .both (f kind inside) (g kind inside) (shift (5 + n) (j (drop (5 + n) s))) (shift (5 + n) (k (drop (5 + n) s))) (omega arith) fits
           (kept .wider (f kind inside) (g kind inside) (omega arith) (omega (arith, length-take n (drop 5 s), length-drop 5 s)) (r kind inside)) (rest-holds (5 + n) s j k h fits)
-      by-head head.Cut e = kept .refused 0 (length s) Short short
+      by-head (Head.Refused x) e = kept .refused 0 (length s) x (head-refusal s x e)
 
   ending-holds : Holds ending ending
   unfolding ending
@@ -145,28 +153,28 @@ module _ (P : ℕ → ℕ → Trace → Trace → Type 0) (kept : KeptOfTwo P) w
   piece-holds f g j k r h s = by-span (listOf s) refl
     where
       by-span : (x : Span) → listOf s ≡ x → P 0 (length s) (pieceAt x f j s) (pieceAt x g k s)
-      by-span (span.Bytes n) e =
+      by-span (Span.Bytes n) e =
           let fits : 4 + n ≤ length s = list-fits s n refl e in
           let inside = take n (drop 4 s) in
           kept .both (shift 4 (f inside)) (shift 4 (g inside)) (shift (4 + n) (j (drop (4 + n) s))) (shift (4 + n) (k (drop (4 + n) s))) (omega arith) fits
           (part-holds 4 n s f g r fits) (rest-holds (4 + n) s j k h fits)
-      by-span span.Cut e = kept .refused 0 (length s) Short short
+      by-span (Span.Refused x) e = kept .refused 0 (length s) x (list-refusal s x e)
 
   listed-holds : (f g : Reader) (j k : Reading) → HoldsRecord f g → Holds j k → Holds (listed f j) (listed g k)
   unfolding listedAt pieceAt
   listed-holds f g j k r h s = rw (as-piece f j (listOf s), as-piece g k (listOf s)) (piece-holds (records f) (records g) j k (records-hold f g r) h s)
     where
       as-piece : (x : Reader) (y : Reading) (z : Span) → listedAt z x y s ≡ pieceAt z (records x) y s
-      as-piece x y (span.Bytes n) = refl
-      as-piece x y span.Cut = refl
+      as-piece x y (Span.Bytes n) = refl
+      as-piece x y (Span.Refused w) = refl
 
   named-holds : (j k : Reading) → Holds j k → Holds (named j) (named k)
   unfolding namedAt
   named-holds j k h s = by-name (nameOf s) refl
     where
-      by-name : (x : NameRead) → nameOf s ≡ x → P 0 (length s) (namedAt x j s) (namedAt x k s)
-      by-name (name.Bytes n) e = after-holds (1 + n) s j k h (name-fits s n refl e)
-      by-name (name.Refused r) e = kept .refused 0 (length s) r (name-refusal s r e)
+      by-name : (x : Span) → nameOf s ≡ x → P 0 (length s) (namedAt x j s) (namedAt x k s)
+      by-name (Span.Bytes n) e = after-holds (1 + n) s j k h (name-fits s n refl e)
+      by-name (Span.Refused r) e = kept .refused 0 (length s) r (name-refusal s r e)
 
   flagged-holds : (j k j′ k′ : Reading) → Holds j k → Holds j′ k′ → Holds (flagged j j′) (flagged k k′)
   unfolding flaggedAt

@@ -10,17 +10,13 @@ use lib.Dec.{ltb}
 use lib.ListN.{length, getD, take, drop, length-drop, take-append-drop}
 use lib.Seq.{length-take-le, take-add, drop-cons, drop-drop, getD-take, getD-drop}
 use Rattle.fields.specs.declared.Role.the-variants.{Node}
-use Rattle.fields.specs.declared.Head.the-variants as head
-use Rattle.fields.specs.declared.Span.{Span}
-use Rattle.fields.specs.declared.Span.the-variants as span
-use Rattle.fields.specs.declared.NameRead.{NameRead}
-use Rattle.fields.specs.declared.NameRead.the-variants as name
-use Rattle.fields.specs.Bytes.{pick, le32At, headOf, listOf, nameOf}
+use Rattle.fields.specs.declared.Refusal.the-variants.{Short}
+use Rattle.fields.specs.declared.Reach.the-variants as reach
+use Rattle.fields.specs.Bytes.{Head, Span, pick, le32At, headOf, listOf, nameOf}
 use Rattle.fields.proofs.Laws.{head-fits, list-fits, name-fits}
 use Rattle.names.specs.Words.{each}
 use Rattle.records.specs.Trace.{Record, met, well, ends}
 use Rattle.records.specs.Grammar.{Reading, repeat, nodes}
-use Rattle.story.specs.declared.Reach.the-variants as reach
 use Rattle.story.specs.Story.{Name}
 use Rattle.records.specs.Items.{itemsAs, itemsIn}
 use Rattle.story.specs.Headings.{reachAt, namesReach, countedReach}
@@ -73,7 +69,7 @@ no-bytes (x ∷ s) h = absurd (omega arith)
 -- 2. Names
 
 -- a name with its count byte
-pub is-name : (at k : ℕ) (t : List ℕ) → nameOf t ≡ name.Bytes k → IsName at (take (1 + k) t) (front at k t)
+pub is-name : (at k : ℕ) (t : List ℕ) → nameOf t ≡ Span.Bytes k → IsName at (take (1 + k) t) (front at k t)
 is-name at k [] e = absurd (omega (arith, name-fits [] k refl e))
 is-name at k (x ∷ t) e =
     let count : x ≡ k = name-count (x ∷ t) k refl e in
@@ -82,7 +78,7 @@ is-name at k (x ∷ t) e =
     record { place = refl; bytes = rw (more, size, count) }
 
 -- a name, and joined ones after it
-name-joined : (at k : ℕ) (s t rest : List ℕ) (ns : List Name) → nameOf t ≡ name.Bytes k → s ≡ take (1 + k) t ++ rest → Joined IsName (at + (1 + k)) rest ns → Joined IsName at s (front at k t ∷ ns)
+name-joined : (at k : ℕ) (s t rest : List ℕ) (ns : List Name) → nameOf t ≡ Span.Bytes k → s ≡ take (1 + k) t ++ rest → Joined IsName (at + (1 + k)) rest ns → Joined IsName at s (front at k t ∷ ns)
 name-joined at k s t rest ns told e later =
     let size : length (take (1 + k) t) ≡ 1 + k = length-take-le (1 + k) t (name-fits t k refl told) in
     (take (1 + k) t, rest, e, is-name at k t told, rw size later)
@@ -113,17 +109,17 @@ unfolding namesN namesReach reachAt
 reach-joined b s zero p {e} h q = let same : p ≡ e = cc in (no-bytes (part p e s) (omega (arith, part-length p e s (omega arith))), refl)
 reach-joined b s (suc n) p {e} h q = by-name (nameOf (drop p s)) refl q (λ k. reach-joined b s n (p + (1 + k)))
   where
-    by-name : (r : NameRead) → nameOf (drop p s) ≡ r → reachAt r (namesReach s n) p ≡ reach.To e
+    by-name : (r : Span) → nameOf (drop p s) ≡ r → reachAt r (namesReach s n) p ≡ reach.To e
         → ((k : ℕ) → p + (1 + k) ≤ length s → namesReach s n (p + (1 + k)) ≡ reach.To e
         → Joined IsName (b + (p + (1 + k))) (part (p + (1 + k)) e s) (namesN n (b + (p + (1 + k))) (drop (p + (1 + k)) s)) × (length (namesN n (b + (p + (1 + k))) (drop (p + (1 + k)) s)) ≡ n))
         → Joined IsName (b + p) (part p e s) (namesN (suc n) (b + p) (drop p s)) × (length (namesN (suc n) (b + p) (drop p s)) ≡ suc n)
-    by-name (name.Bytes k) told q later =
+    by-name (Span.Bytes k) told q later =
         let within : p + (1 + k) ≤ length s = omega (arith, name-fits (drop p s) k refl told, length-drop p s) in
         let reaches : p + (1 + k) ≤ e = names-fit s n (p + (1 + k)) within q .0 in
         let rest = later k within q in
         rw (names-n-step (suc n) (b + p) k (drop p s) (omega arith) refl told, sub-one (suc n), add-assoc b p (1 + k), drop-drop (1 + k) p s)
         (name-joined (b + p) k (part p e s) (drop p s) (part (p + (1 + k)) e s) (namesN n (b + (p + (1 + k))) (drop (p + (1 + k)) s)) told (part-front p (1 + k) e s reaches) (rw (add-assoc b p (1 + k)) (rest .0)), ap suc (rest .1))
-    by-name (name.Refused x) told q later = let z : _≡_ {A = ℕ} 0 1 = cc in absurd (omega arith)
+    by-name (Span.Refused x) told q later = let z : _≡_ {A = ℕ} 0 1 = cc in absurd (omega arith)
 
 -- a count byte and so many names
 pub counted-joined : (b : ℕ) (s : List ℕ) (p : ℕ) {e : ℕ} → countedReach s p ≡ reach.To e → AreCounted (b + p) (part p e s) (countedIn (b + p) (drop p s))
@@ -145,11 +141,11 @@ sized u k h e =
     record { four = length-take-le 4 u (omega arith); counts = counts ∙ e ∙ sym (length-take-le k (drop 4 u) (omega (arith, length-drop 4 u))) }
 
 -- the length of a list
-list-sized : (t : List ℕ) (k : ℕ) → listOf t ≡ span.Bytes k → Sized (take 4 t) (take k (drop 4 t))
+list-sized : (t : List ℕ) (k : ℕ) → listOf t ≡ Span.Bytes k → Sized (take 4 t) (take k (drop 4 t))
 unfolding listOf
 list-sized t k told = sized t k (list-fits t k refl told) (by-tests (ltb (length t) 4) (ltb (length t - 4) (le32At t 0)) told)
   where
-    by-tests : (i j : Bool) → pick i span.Cut (pick j span.Cut (span.Bytes (le32At t 0))) ≡ span.Bytes k → le32At t 0 ≡ k
+    by-tests : (i j : Bool) → pick i (Span.Refused Short) (pick j (Span.Refused Short) (Span.Bytes (le32At t 0))) ≡ Span.Bytes k → le32At t 0 ≡ k
     by-tests true j e = let z : _≡_ {A = ℕ} 0 1 = cc in absurd (omega arith)
     by-tests false true e = let z : _≡_ {A = ℕ} 0 1 = cc in absurd (omega arith)
     by-tests false false e = cc
@@ -166,7 +162,7 @@ module _ {A : Type 0} (g : Reading) (f : ℕ → List ℕ → A) (P : ℕ → Li
       by-span : (r : Span) → listOf t ≡ r
           → ((k : ℕ) → length (drop (4 + k) t) ≤ n → ends (repeat (piece g) (drop (4 + k) t)) ≡ well → Joined P (at + (4 + k)) (drop (4 + k) t) (piecesN n f (at + (4 + k)) (drop (4 + k) t)))
           → Joined P at t (piecesAt r f (piecesN n f) at t)
-      by-span (span.Bytes k) told later =
+      by-span (Span.Bytes k) told later =
           let fits = list-fits t k refl told in
           let size : length (take (4 + k) t) ≡ 4 + k = length-take-le (4 + k) t fits in (
             take (4 + k) t,
@@ -175,7 +171,7 @@ module _ {A : Type 0} (g : Reading) (f : ℕ → List ℕ → A) (P : ℕ → Li
             rw (take-add 4 k t) (own at (take 4 t) (take k (drop 4 t)) (list-sized t k told) (piece-first g t good k refl told)),
             rw size (later k (omega (arith, fits, h, length-drop (4 + k) t)) (piece-rest g t good k refl told)),
           )
-      by-span span.Cut told later = no-bytes t (piece-none-left g t good refl told)
+      by-span (Span.Refused x) told later = no-bytes t (piece-none-left g t good refl told)
 
   -- all of them
   pub pieces-joined : (at : ℕ) (t : List ℕ) → ends (repeat (piece g) t) ≡ well → Joined P at t (piecesIn f at t)
@@ -185,7 +181,7 @@ module _ {A : Type 0} (g : Reading) (f : ℕ → List ℕ → A) (P : ℕ → Li
 -- 4. Records
 
 -- a record at the front
-is-record : (at kind n : ℕ) (t : List ℕ) → headOf t ≡ head.Piece kind n → IsRecord at (take (5 + n) t) (record { role = Node; kind = kind; place = at; payload = take n (drop 5 t) })
+is-record : (at kind n : ℕ) (t : List ℕ) → headOf t ≡ Head.Piece kind n → IsRecord at (take (5 + n) t) (record { role = Node; kind = kind; place = at; payload = take n (drop 5 t) })
 unfolding headOf
 is-record at kind n [] told = absurd (omega (arith, head-fits [] kind n refl told))
 is-record at kind n (x ∷ u) told =
@@ -193,7 +189,7 @@ is-record at kind n (x ∷ u) told =
     let more : 5 + n ≡ suc (4 + n) = omega arith in
     record { place = refl; size = take 4 u; bytes = rw (more, take-add 4 n u, f .0); sized = sized u n (omega (arith, head-fits (x ∷ u) kind n refl told)) (f .1) }
   where
-    by-tests : (i j : Bool) → pick i head.Cut (pick j head.Cut (head.Piece x (le32At u 0))) ≡ head.Piece kind n → (x ≡ kind) × (le32At u 0 ≡ n)
+    by-tests : (i j : Bool) → pick i (Head.Refused Short) (pick j (Head.Refused Short) (Head.Piece x (le32At u 0))) ≡ Head.Piece kind n → (x ≡ kind) × (le32At u 0 ≡ n)
     by-tests true j e = let z : _≡_ {A = ℕ} 0 1 = cc in absurd (omega arith)
     by-tests false true e = let z : _≡_ {A = ℕ} 0 1 = cc in absurd (omega arith)
     by-tests false false e = (cc, cc)
@@ -223,7 +219,7 @@ unfolding itemsIn itemsAs
 are-nodes at t good = let d = nodes-joined (length t) at t (omega arith) good in record { records = d .0; joined = d .1; all = rw (good, d .2) }
 
 -- a node list at the front
-pub is-list : (at n : ℕ) (t : List ℕ) → listOf t ≡ span.Bytes n → ends (nodes (take n (drop 4 t))) ≡ well → IsList at (take (4 + n) t) (itemsIn (at + 4) (take n (drop 4 t)))
+pub is-list : (at n : ℕ) (t : List ℕ) → listOf t ≡ Span.Bytes n → ends (nodes (take n (drop 4 t))) ≡ well → IsList at (take (4 + n) t) (itemsIn (at + 4) (take n (drop 4 t)))
 is-list at n t told good = record {
   size = take 4 t;
   nodes = take n (drop 4 t);

@@ -11,15 +11,13 @@ use lib.Dec.{eqb, ltb}
 use lib.ListN.{length, getD, take, drop, length-take, length-drop}
 use lib.Seq.{take-all, take-take, drop-drop, getD-take, getD-drop}
 use borrow.Author.Tests.{ltb-true, ltb-false}
-use Rattle.fields.specs.declared.NameRead.{NameRead}
-use Rattle.fields.specs.declared.NameRead.the-variants as name
-use Rattle.fields.specs.Bytes.{pick, nameOf}
+use Rattle.fields.specs.declared.Reach.the-variants as reach
+use Rattle.fields.specs.Bytes.{Span, pick, nameOf}
 use Rattle.fields.proofs.Laws.{name-fits}
 use Rattle.names.specs.Counted.{nameAt}
 use Rattle.records.specs.Trace.{Record, met, well, ends}
 use Rattle.records.specs.Grammar.{nodes}
 use Rattle.records.proofs.Places.{stands-in-file, lies-within, drop-take}
-use Rattle.story.specs.declared.Reach.the-variants as reach
 use Rattle.records.specs.Items.{Kind, plain, temp, divert, tunnel, thread, call, variable, argument, choice, gather, parameter, stitchName, flowStart, code, Item, nameIn, sortOf, nameStart, nameless, recordName, labelled, whatOf, itemAs, itemOf, itemsIn}
 use Rattle.story.specs.Story.{Name}
 use Rattle.story.specs.Headings.{reachAt, namesReach, countedReach}
@@ -60,7 +58,7 @@ module _ {file : List ℕ} {at : ℕ} {t : List ℕ} (l : Lies file at t) where
       by-size false h = record { size = n; bytes = ap (take n) (l .bytes) ∙ take-take n (l .size) (drop at file) (ltb-false (l .size) n h) }
 
   -- the name at the front is the file's name at the place
-  pub name-lies : (k : ℕ) → nameOf t ≡ name.Bytes k → take k (drop 1 t) ≡ nameAt file at
+  pub name-lies : (k : ℕ) → nameOf t ≡ Span.Bytes k → take k (drop 1 t) ≡ nameAt file at
   unfolding nameAt
   name-lies k e =
       let sized : 1 + k ≤ l .size = omega (arith, name-fits t k refl e, ap length (l .bytes), length-take (l .size) (drop at file)) in
@@ -83,7 +81,7 @@ lies-part l a b = lies-take (lies-drop l a) (b - a)
 abbrev pub AsFile : List ℕ → Name → Type 0
 AsFile file m = m .bytes ≡ nameAt file (m .at)
 
-first-or-later : {file : List ℕ} {at : ℕ} {t : List ℕ} → Lies file at t → (k : ℕ) → nameOf t ≡ name.Bytes k → (rest : List Name) (m : Name)
+first-or-later : {file : List ℕ} {at : ℕ} {t : List ℕ} → Lies file at t → (k : ℕ) → nameOf t ≡ Span.Bytes k → (rest : List Name) (m : Name)
     → (List·Memᴰ m rest → AsFile file m) → List·Memᴰ m (front at k t ∷ rest) → AsFile file m
 first-or-later {file} {at} {t} l k e rest m later i = by-cases (List·Memᴰ·cases-cons i)
   where
@@ -109,14 +107,14 @@ unfolding namesN namesReach reachAt
 reach-as-file l zero p q m i = absurd (List·Memᴰ·not-nil i)
 reach-as-file {file} {b} {s} l (suc n) p {e} q m i = by-name (nameOf (drop p s)) refl q (λ k. reach-as-file l n (p + (1 + k)))
   where
-    by-name : (r : NameRead) → nameOf (drop p s) ≡ r → reachAt r (namesReach s n) p ≡ reach.To e
+    by-name : (r : Span) → nameOf (drop p s) ≡ r → reachAt r (namesReach s n) p ≡ reach.To e
         → ((k : ℕ) → namesReach s n (p + (1 + k)) ≡ reach.To e → (m : Name) → List·Memᴰ m (namesN n (b + (p + (1 + k))) (drop (p + (1 + k)) s)) → AsFile file m)
         → AsFile file m
-    by-name (name.Bytes k) told q later =
+    by-name (Span.Bytes k) told q later =
         first-or-later (lies-drop l p) k told (namesN (suc n - 1) (b + p + (1 + k)) (drop (1 + k) (drop p s))) m
         (λ j. later k q m (rw (sub-one (suc n), add-assoc b p (1 + k), drop-drop (1 + k) p s) at j))
         (rw (names-n-step (suc n) (b + p) k (drop p s) (omega arith) refl told) at i)
-    by-name (name.Refused x) told q later = let z : _≡_ {A = ℕ} 0 1 = cc in absurd (omega arith)
+    by-name (Span.Refused x) told q later = let z : _≡_ {A = ℕ} 0 1 = cc in absurd (omega arith)
 
 -- a count byte and so many names
 pub counted-as-file : {file : List ℕ} {b : ℕ} {s : List ℕ} → Lies file b s → (p : ℕ) {e : ℕ} → countedReach s p ≡ reach.To e → (m : Name) → List·Memᴰ m (countedIn (b + p) (drop p s)) → AsFile file m

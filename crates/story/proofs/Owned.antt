@@ -7,9 +7,8 @@ use Prim.Native.Nat.{ℕ, zero, suc, _+_, _-_, _≤_, _<_}
 use native.Mathlib.Omega.{arith}
 use lib.ListN.{length, getD, take, drop, length-take, length-drop}
 use lib.Seq.{drop-drop}
-use Rattle.fields.specs.declared.Span.{Span}
-use Rattle.fields.specs.declared.Span.the-variants as span
-use Rattle.fields.specs.Bytes.{listOf}
+use Rattle.fields.specs.declared.Reach.the-variants as reach
+use Rattle.fields.specs.Bytes.{Span, listOf}
 use Rattle.fields.proofs.Laws.{list-fits}
 use Rattle.names.specs.Words.{Sorted, only, each}
 use Rattle.names.proofs.Bools.{is-true}
@@ -18,7 +17,6 @@ use Rattle.records.specs.Trace.{Record, met, Ending, well, refused, ends}
 use Rattle.records.specs.Grammar.{Reading, repeat, ending, nodes}
 use Rattle.records.proofs.Places.{lies-within}
 use Rattle.story.specs.declared.Sections.{Sections}
-use Rattle.story.specs.declared.Reach.the-variants as reach
 use Rattle.story.specs.declared.Heading.{Heading}
 use Rattle.records.specs.Items.{Item, nameIn, itemOf, itemsAs, itemsIn}
 use Rattle.story.specs.Story.{Name, Stitch, Flow, Story, ownName}
@@ -176,10 +174,10 @@ module _ {A : Type 0} {file : List ℕ} (r : Reading) (g : ℕ → List ℕ → 
   pieces-each-n Q q (suc n) {at} t l good x m = by-span (listOf t) refl m (λ k e. pieces-each-n Q q n (drop (4 + k) t) (lies-drop l (4 + k)) (piece-rest r t good k refl e) x)
     where
       by-span : (y : Span) → listOf t ≡ y → List·Memᴰ x (piecesAt y g (piecesN n g) at t)
-          → ((k : ℕ) → listOf t ≡ span.Bytes k → List·Memᴰ x (piecesN n g (at + (4 + k)) (drop (4 + k) t)) → Q x) → Q x
-      by-span (span.Bytes k) e i later =
+          → ((k : ℕ) → listOf t ≡ Span.Bytes k → List·Memᴰ x (piecesN n g (at + (4 + k)) (drop (4 + k) t)) → Q x) → Q x
+      by-span (Span.Bytes k) e i later =
           ⊎-elim (λ here. rw here (q at (take k (drop 4 t)) (lies-take (lies-drop l 4) k) (piece-first r t good k refl e))) (later k e) (List·Memᴰ·cases-cons i)
-      by-span span.Cut e i later = absurd (List·Memᴰ·not-nil i)
+      by-span (Span.Refused x) e i later = absurd (List·Memᴰ·not-nil i)
 
   pub pieces-each : (Q : A → Type 0) → ((p : ℕ) (u : List ℕ) → Lies file (p + 4) u → ends (r u) ≡ well → Q (g p u))
       → {at : ℕ} (t : List ℕ) → Lies file at t → ends (repeat (piece r) t) ≡ well → (x : A) → List·Memᴰ x (piecesIn g at t) → Q x
@@ -194,14 +192,14 @@ module _ {A : Type 0} {file : List ℕ} (r : Reading) (g : ℕ → List ℕ → 
     pieces-own-n (suc n) at t l good = by-span (listOf t) refl (λ k e. pieces-own-n n (at + (4 + k)) (drop (4 + k) t) (lies-drop l (4 + k)) (piece-rest r t good k refl e))
       where
         by-span : (y : Span) → listOf t ≡ y
-            → ((k : ℕ) → listOf t ≡ span.Bytes k → Own file (at + (4 + k)) (at + (4 + k) + length (drop (4 + k) t)) (each f (piecesN n g (at + (4 + k)) (drop (4 + k) t))))
+            → ((k : ℕ) → listOf t ≡ Span.Bytes k → Own file (at + (4 + k)) (at + (4 + k) + length (drop (4 + k) t)) (each f (piecesN n g (at + (4 + k)) (drop (4 + k) t))))
             → Own file at (at + length t) (each f (piecesAt y g (piecesN n g) at t))
-        by-span (span.Bytes k) e later =
+        by-span (Span.Bytes k) e later =
             let fits : 4 + k ≤ length t = list-fits t k refl e in
             own-append {mid = at + (4 + k)} (f (g at (take k (drop 4 t)))) _ (omega arith) (omega arith)
             (own-wider (omega arith) (omega (arith, length-take k (drop 4 t))) (q at (take k (drop 4 t)) (lies-take (lies-drop l 4) k) (piece-first r t good k refl e)))
             (own-wider (omega arith) (omega (arith, length-drop (4 + k) t)) (later k e))
-        by-span span.Cut e later = own-none at (at + length t)
+        by-span (Span.Refused x) e later = own-none at (at + length t)
 
     pub pieces-own : (at : ℕ) (t : List ℕ) → Lies file at t → ends (repeat (piece r) t) ≡ well → Own file at (at + length t) (each f (piecesIn g at t))
     unfolding piecesIn

@@ -7,12 +7,10 @@ use native.Mathlib.Numerals.{sub-one}
 use native.Mathlib.Omega.{arith}
 use lib.ListN.{length, getD, take, drop, length-take, length-drop}
 use lib.Seq.{take-take, drop-drop, getD-take, getD-drop}
-use Rattle.fields.specs.declared.NameRead.{NameRead}
-use Rattle.fields.specs.declared.NameRead.the-variants as name
-use Rattle.fields.specs.Bytes.{nameOf}
+use Rattle.fields.specs.declared.Reach.the-variants as reach
+use Rattle.fields.specs.Bytes.{Span, nameOf}
 use Rattle.fields.proofs.Laws.{name-fits, name-whole}
 use Rattle.records.proofs.Places.{drop-take}
-use Rattle.story.specs.declared.Reach.the-variants as reach
 use Rattle.story.specs.Headings.{reachAt, namesReach, countedReach}
 use Rattle.story.specs.Flows.{namesN, countedIn, part}
 use Rattle.story.proofs.Reaches.{names-fit, counted-read}
@@ -24,7 +22,7 @@ unfolding part
 part-length a b s h = simp (length-take, length-drop) (omega arith)
 
 -- a name in the first m bytes
-pub name-part : (m : ℕ) (t : List ℕ) (k : ℕ) → nameOf t ≡ name.Bytes k → 1 + k ≤ m → nameOf (take m t) ≡ name.Bytes k
+pub name-part : (m : ℕ) (t : List ℕ) (k : ℕ) → nameOf t ≡ Span.Bytes k → 1 + k ≤ m → nameOf (take m t) ≡ Span.Bytes k
 name-part m t k e h =
     let count : getD (take m t) 0 0 ≡ k = getD-take m t 0 0 (omega arith) ∙ name-count t k refl e in
     rw (← count) (name-whole (take m t) (omega (arith, count, length-take m t, name-fits t k refl e)))
@@ -39,18 +37,18 @@ unfolding namesReach reachAt namesN
 names-part zero b m at s h q f = refl
 names-part (suc n) b m at s {e} h q f = by-name (nameOf (drop at s)) refl q (λ k. names-part n (b + (1 + k)) (m - (1 + k)) (at + (1 + k)) s)
   where
-    by-name : (r : NameRead) → nameOf (drop at s) ≡ r → reachAt r (namesReach s n) at ≡ reach.To e
+    by-name : (r : Span) → nameOf (drop at s) ≡ r → reachAt r (namesReach s n) at ≡ reach.To e
         → ((k : ℕ) → at + (1 + k) ≤ length s → namesReach s n (at + (1 + k)) ≡ reach.To e → e ≤ at + (1 + k) + (m - (1 + k))
         → namesN n (b + (1 + k)) (take (m - (1 + k)) (drop (at + (1 + k)) s)) ≡ namesN n (b + (1 + k)) (drop (at + (1 + k)) s))
         → namesN (suc n) b (take m (drop at s)) ≡ namesN (suc n) b (drop at s)
-    by-name (name.Bytes k) p q later =
+    by-name (Span.Bytes k) p q later =
         let within : at + (1 + k) ≤ length s = omega (arith, name-fits (drop at s) k refl p, length-drop at s) in
         let reaches : at + (1 + k) ≤ e = names-fit s n (at + (1 + k)) within q .0 in
         let fits : 1 + k ≤ m = omega arith in
         names-n-step (suc n) b k (take m (drop at s)) (omega arith) refl (name-part m (drop at s) k p fits)
         ∙ rw (front-part b m k (drop at s) fits, drop-take (1 + k) m (drop at s), drop-drop (1 + k) at s, sub-one (suc n), later k within q (omega arith))
         (sym (names-n-step (suc n) b k (drop at s) (omega arith) refl p ∙ rw (sub-one (suc n), drop-drop (1 + k) at s)))
-    by-name (name.Refused x) p q later = let z : _≡_ {A = ℕ} 0 1 = cc in absurd (omega arith)
+    by-name (Span.Refused x) p q later = let z : _≡_ {A = ℕ} 0 1 = cc in absurd (omega arith)
 
 -- a count byte and so many names, in the bytes that they take
 pub counted-part : (b at : ℕ) (s : List ℕ) {e : ℕ} → countedReach s at ≡ reach.To e → countedIn b (part at e s) ≡ countedIn b (drop at s)

@@ -1,66 +1,123 @@
--- Titles, pieces and sections as the reading goes through them. Assumes nothing.
-use mathlib.Core.Path.{_≡_}
+-- Titles and pieces as the reading goes through them. Assumes nothing.
+use mathlib.Core.Path.{_≡_, refl, sym}
 use mathlib.Core.List.{List}
-use Prim.Native.Nat.{ℕ, _+_, _-_}
+use Prim.Native.Nat.{ℕ, _+_, _-_, _≤_, _<_}
 use native.Mathlib.Omega.{arith}
 use lib.ListN.{length, take, drop}
 use Rattle.fields.specs.declared.Refusal.{Refusal}
-use Rattle.fields.specs.declared.Refusal.the-variants.{Short}
-use Rattle.fields.specs.declared.Span.{Span}
-use Rattle.fields.specs.declared.Span.the-variants as span
-use Rattle.fields.specs.Bytes.{listOf}
-use Rattle.fields.proofs.Laws.{to-end}
-use Rattle.records.specs.Trace.{shift}
-use Rattle.records.specs.Grammar.{Reading, nodes}
+use Rattle.fields.specs.declared.Reach.{Reach}
+use Rattle.fields.specs.declared.Reach.the-variants as reach
+use Rattle.fields.specs.Bytes.{listOf, spanReach}
+use Rattle.fields.proofs.Laws.{span-to, span-refused, to-end}
+use Rattle.records.specs.Trace.{andThen, shift}
+use Rattle.records.specs.Grammar.{Reading, nothing, repeat, nodes}
 use Rattle.story.specs.declared.Heading.{Heading}
 use Rattle.story.specs.declared.HeadingRead.{HeadingRead}
 use Rattle.story.specs.declared.HeadingRead.the-variants as heading
 use Rattle.story.specs.Headings.{headingOf}
-use Rattle.story.specs.Flows.{titled, pieceAt, piece, part}
+use Rattle.story.specs.Flows.{titled, pieceAt, piece, part, titleEnd}
+use Rattle.records.specs.declared.PieceRead.{PieceRead}
+use Rattle.records.specs.declared.PieceRead.the-variants as piece-read
 use Rattle.records.specs.declared.Walk.{Walk}
 use Rattle.records.specs.declared.Walk.the-variants as walk
-use Rattle.records.specs.Work.{St, st, Visitor, run, Told}
-use Rattle.records.proofs.Traces.{run-shift}
-use Rattle.records.proofs.Walking.{told-refused, then-on, then-else}
+use Rattle.records.specs.Work.{St, st, Visitor, run, Told, ToldTo}
+use Rattle.records.proofs.Traces.{then-done, refuse-then, shift-done, run-shift}
+use Rattle.records.proofs.Readings.{repeat-none, repeat-step}
+use Rattle.records.proofs.Walking.{told-refused, told-done, then-on, then-else}
+use Rattle.records.proofs.PiecesRead.{piece-answers, piece-answers-refused, piece-on, piece-else, piece-within}
+use Rattle.story.proofs.Pieces.{piece-local}
+use Rattle.story.proofs.Reaches.{heading-laid}
 use Rattle.story.proofs.Titled.{titleTrace, titled-trace}
-use Rattle.fields.proofs.Laws as fits
 
 module _ (v : Visitor St) (b : ℕ) (s₀ : St) where
   -- 1. A title with its nodes
 
-  pub titled-refused : (k : Reading) (s : List ℕ) (x : Refusal) {r : HeadingRead} → r ≡ headingOf s → r ≡ heading.Refused x → Told (run v b s₀ (titled k s)) (walk.Refused x) (s₀ .out)
+  pub title-refused : (s : List ℕ) (x : Refusal) {r : HeadingRead} → r ≡ headingOf s → r ≡ heading.Refused x
+      → ToldTo (run v b s₀ (titled nothing s)) (titleEnd (headingOf s)) (piece-read.Refused x) (s₀ .out)
   unfolding titleTrace
-  titled-refused k s x e q = told-refused v b s₀ (titled k s) x (rw (titled-trace k s, ← e, q))
+  title-refused s x e q =
+      piece-answers-refused (run v b s₀ (titled nothing s)) (titleEnd (headingOf s)) (told-refused v b s₀ (titled nothing s) x (rw (titled-trace nothing s, ← e, q))) x refl refl
 
-  module _ (k : Reading) (s : List ℕ) (h : Heading) {r : HeadingRead} (told : r ≡ headingOf s) (at : r ≡ heading.At h) {w : Walk} {o : List ℕ}
+  -- so the callee answers, which reads the title with its nodes
+  module _ (s : List ℕ) (h : Heading) {r : HeadingRead} (told : r ≡ headingOf s) (at : r ≡ heading.At h) {w : Walk} {o : List ℕ}
       (g : Told (run v (b + h .nodes) s₀ (nodes (take (h .end - h .nodes) (drop (h .nodes) s)))) w o) where
-    inside : Told (run v b s₀ (shift (h .nodes) (nodes (part (h .nodes) (h .end) s)))) w o
-    unfolding part
-    inside = rw (run-shift v b (h .nodes) s₀ (nodes (take (h .end - h .nodes) (drop (h .nodes) s)))) g
+    titled-alone : Told (run v b s₀ (titled nothing s)) w o
+    unfolding titleTrace part
+    titled-alone =
+        let inside = nodes (take (h .end - h .nodes) (drop (h .nodes) s)) in
+        rw (titled-trace nothing s, ← told, at, shift-done (h .end), then-done (shift (h .nodes) inside), run-shift v b (h .nodes) s₀ inside) g
 
-    pub titled-on : (m : ℕ) → w ≡ walk.Done m → run v b s₀ (titled k s) ≡ run v (b + h .end) (st o m) (k (take (length s - h .end) (drop (h .end) s)))
-    unfolding titleTrace
-    titled-on m z = rw (to-end (h .end) s, titled-trace k s, ← told, at) (then-on v b s₀ (shift (h .nodes) (nodes (part (h .nodes) (h .end) s))) (k (drop (h .end) s)) (h .end) m inside z)
+    pub title-answers : (m : ℕ) → w ≡ walk.Done m → ToldTo (run v b s₀ (titled nothing s)) (titleEnd (headingOf s)) (piece-read.To (h .end) m) o
+    unfolding titleEnd
+    title-answers m z = piece-answers (run v b s₀ (titled nothing s)) (titleEnd (headingOf s)) titled-alone (h .end) m z (rw (← told, at))
 
-    pub titled-else : ((m : ℕ) → w ≡ walk.Done m → ⊥) → Told (run v b s₀ (titled k s)) w o
-    unfolding titleTrace
-    titled-else other = rw (titled-trace k s, ← told, at) (then-else v b s₀ (shift (h .nodes) (nodes (part (h .nodes) (h .end) s))) (shift (h .end) (k (drop (h .end) s))) inside other)
+    pub title-answers-refused : (x : Refusal) → w ≡ walk.Refused x → ToldTo (run v b s₀ (titled nothing s)) (titleEnd (headingOf s)) (piece-read.Refused x) o
+    title-answers-refused x z = piece-answers-refused (run v b s₀ (titled nothing s)) (titleEnd (headingOf s)) titled-alone x z refl
 
-  -- 2. A piece
+  -- so its caller learns of it
+  module _ (s : List ℕ) where
+    trace-then : (k : Reading) (x : HeadingRead) → titleTrace x k s ≡ andThen (titleTrace x nothing s) (shift (titleEnd x) (k (drop (titleEnd x) s)))
+    unfolding titleTrace titleEnd
+    trace-then k (heading.At h) = rw (shift-done (h .end), then-done (shift (h .nodes) (nodes (part (h .nodes) (h .end) s))))
+    trace-then k (heading.Refused r) = sym (refuse-then r (shift 0 (k (drop 0 s))))
 
-  pub piece-cut : (g k : Reading) (s : List ℕ) {r : Span} → r ≡ listOf s → r ≡ span.Cut → Told (run v b s₀ (piece g k s)) (walk.Refused Short) (s₀ .out)
+    titled-then : (k : Reading) → titled k s ≡ andThen (titled nothing s) (shift (titleEnd (headingOf s)) (k (drop (titleEnd (headingOf s)) s)))
+    titled-then k = rw (titled-trace k s, titled-trace nothing s) (trace-then k (headingOf s))
+
+    title-end-fits : (x : HeadingRead) → x ≡ headingOf s → titleEnd x ≤ length s
+    unfolding titleEnd
+    title-end-fits (heading.At h) p = omega (arith, heading-laid s h p refl)
+    title-end-fits (heading.Refused r) p = omega arith
+
+    module _ {a : PieceRead} {o : List ℕ} (g : ToldTo (run v b s₀ (titled nothing s)) (titleEnd (headingOf s)) a o) where
+      pub title-fits : (e m : ℕ) → a ≡ piece-read.To e m → (0 ≤ e) × (e ≤ length s)
+      title-fits = piece-within v b s₀ (titled nothing s) (titleEnd (headingOf s)) g 0 (length s) (title-end-fits (headingOf s) refl) (λ m z. omega arith)
+
+      pub titled-on : (k : Reading) (e m : ℕ) → a ≡ piece-read.To e m → run v b s₀ (titled k s) ≡ run v (b + e) (st o m) (k (take (length s - e) (drop e s)))
+      titled-on k = piece-on v b s₀ (titled nothing s) (titleEnd (headingOf s)) g k s (titled k s) (titled-then k)
+
+      pub titled-else : (k : Reading) (x : Refusal) → a ≡ piece-read.Refused x → Told (run v b s₀ (titled k s)) (walk.Refused x) o
+      titled-else k =
+          let to = titleEnd (headingOf s) in
+          piece-else v b s₀ (titled nothing s) to g (shift to (k (drop to s))) (titled k s) (titled-then k)
+
+  -- 2. A piece behind its length
+
+  sized-refused : (g k : Reading) (s : List ℕ) (x : Refusal) {r : Reach} → r ≡ spanReach 4 (listOf s) → r ≡ reach.Refused x
+      → Told (run v b s₀ (piece g k s)) (walk.Refused x) (s₀ .out)
   unfolding pieceAt
-  piece-cut g k s e q = told-refused v b s₀ (piece g k s) Short (rw (← e, q))
+  sized-refused g k s x e q = told-refused v b s₀ (piece g k s) x (rw (span-refused 4 (listOf s) e x q))
 
-  module _ (g k : Reading) (s : List ℕ) (l : ℕ) {r : Span} {w : Walk} {o : List ℕ} (e : r ≡ listOf s) (q : r ≡ span.Bytes l)
-      (f : Told (run v (b + 4) s₀ (g (take (4 + l - 4) (drop 4 s)))) w o) where
-    in-piece : Told (run v b s₀ (shift 4 (g (take l (drop 4 s))))) w o
-    in-piece = rw (run-shift v b 4 s₀ (g (take l (drop 4 s)))) (rw (fits.part 4 l s) at f)
-
-    pub piece-on : (m : ℕ) → w ≡ walk.Done m → run v b s₀ (piece g k s) ≡ run v (b + (4 + l)) (st o m) (k (take (length s - (4 + l)) (drop (4 + l) s)))
+  module _ (g k : Reading) (s : List ℕ) (to : ℕ) {r : Reach} {w : Walk} {o : List ℕ} (e : r ≡ spanReach 4 (listOf s)) (q : r ≡ reach.To to)
+      (f : Told (run v (b + 4) s₀ (g (take (to - 4) (drop 4 s)))) w o) where
+    sized-at : piece g k s ≡ andThen (shift 4 (g (take (to - 4) (drop 4 s)))) (shift to (k (drop to s)))
     unfolding pieceAt
-    piece-on m z = rw (to-end (4 + l) s, ← e, q) (then-on v b s₀ (shift 4 (g (take l (drop 4 s)))) (k (drop (4 + l) s)) (4 + l) m in-piece z)
+    sized-at =
+        let h = span-to 4 (listOf s) e to q in
+        rw (h .0, h .1)
 
-    pub piece-else : ((m : ℕ) → w ≡ walk.Done m → ⊥) → Told (run v b s₀ (piece g k s)) w o
-    unfolding pieceAt
-    piece-else other = rw (← e, q) (then-else v b s₀ (shift 4 (g (take l (drop 4 s)))) (shift (4 + l) (k (drop (4 + l) s))) in-piece other)
+    in-sized : Told (run v b s₀ (shift 4 (g (take (to - 4) (drop 4 s))))) w o
+    in-sized = rw (run-shift v b 4 s₀ (g (take (to - 4) (drop 4 s)))) f
+
+    sized-on : (m : ℕ) → w ≡ walk.Done m → run v b s₀ (piece g k s) ≡ run v (b + to) (st o m) (k (take (length s - to) (drop to s)))
+    sized-on m z = rw (to-end to s, sized-at) (then-on v b s₀ (shift 4 (g (take (to - 4) (drop 4 s)))) (k (drop to s)) to m in-sized z)
+
+    sized-else : {x : Refusal} → w ≡ walk.Refused x → Told (run v b s₀ (piece g k s)) w o
+    sized-else z = rw sized-at (then-else v b s₀ (shift 4 (g (take (to - 4) (drop 4 s)))) (shift to (k (drop to s))) in-sized z)
+
+  -- 3. Such pieces to the end
+
+  module _ (g : Reading) (s : List ℕ) where
+    pub pieces-none : length s ≤ 0 → Told (run v b s₀ (repeat (piece g) s)) (walk.Done (s₀ .n)) (s₀ .out)
+    pieces-none none = told-done v b s₀ (repeat (piece g) s) (repeat-none (piece g) s none)
+
+    module _ (some : 0 < length s) {r : Reach} (e : r ≡ spanReach 4 (listOf s)) where
+      pub pieces-refused : (x : Refusal) → r ≡ reach.Refused x → Told (run v b s₀ (repeat (piece g) s)) (walk.Refused x) (s₀ .out)
+      pieces-refused x q = rw (repeat-step (piece g) (piece-local g) s some) (sized-refused g (repeat (piece g)) s x e q)
+
+      module _ (to : ℕ) {w : Walk} {o : List ℕ} (q : r ≡ reach.To to) (f : Told (run v (b + 4) s₀ (g (take (to - 4) (drop 4 s)))) w o) where
+        pub pieces-on : (m : ℕ) → w ≡ walk.Done m → run v b s₀ (repeat (piece g) s) ≡ run v (b + to) (st o m) (repeat (piece g) (take (length s - to) (drop to s)))
+        pieces-on m z = rw (repeat-step (piece g) (piece-local g) s some) (sized-on g (repeat (piece g)) s to e q f m z)
+
+        pub pieces-else : {x : Refusal} → w ≡ walk.Refused x → Told (run v b s₀ (repeat (piece g) s)) w o
+        pieces-else z = rw (repeat-step (piece g) (piece-local g) s some) (sized-else g (repeat (piece g)) s to e q f z)

@@ -6,9 +6,7 @@ use Prim.Native.Nat.{ℕ, zero, suc, _+_, _≤_, _<_}
 use native.Mathlib.Omega.{arith}
 use lib.ListN.{length, getD, take, drop, length-drop}
 use Rattle.names.specs.Words.{Sorted}
-use Rattle.fields.specs.declared.Span.{Span}
-use Rattle.fields.specs.declared.Span.the-variants as span
-use Rattle.fields.specs.Bytes.{listOf}
+use Rattle.fields.specs.Bytes.{Span, listOf}
 use Rattle.records.specs.Trace.{Record, met, Ending, well, refused, ends}
 use Rattle.records.specs.Grammar.{nodes}
 use Rattle.records.proofs.Places.{places-rise, lies-within}
@@ -18,7 +16,7 @@ use Rattle.story.specs.declared.HeadingRead.the-variants as heading
 use Rattle.records.specs.Items.{Item, itemAs, itemOf, itemsAs, itemsIn}
 use Rattle.story.specs.Story.{Name, Stitch, Flow}
 use Rattle.story.specs.Headings.{headingOf}
-use Rattle.story.specs.Flows.{namesN, countedIn, titledAt, titledIn, piecesAt, piecesN, piecesIn, stitchIn, stitchesFrom, flowIn, flowsIn, part}
+use Rattle.story.specs.Flows.{namesN, countedIn, titledAt, titledIn, piecesAt, piecesN, piecesIn, stitchIn, titleEnd, flowIn, flowsIn, part}
 use Rattle.story.specs.File.{storyIn}
 
 -- one item before another, and one name before another
@@ -103,8 +101,8 @@ module _ {A : Type 0} (f : ℕ → List ℕ → A) where
 
       by-span : (r : Span) → ((k : ℕ) → List·Memᴰ x (piecesN n f (at + (4 + k)) (drop (4 + k) t)) → (p : ℕ) × (s : List ℕ) × (x ≡ f p s))
           → List·Memᴰ x (piecesAt r f (piecesN n f) at t) → (p : ℕ) × (s : List ℕ) × (x ≡ f p s)
-      by-span (span.Bytes k) later i = by-cases k (later k) (List·Memᴰ·cases-cons i)
-      by-span span.Cut later i = absurd (List·Memᴰ·not-nil i)
+      by-span (Span.Bytes k) later i = by-cases k (later k) (List·Memᴰ·cases-cons i)
+      by-span (Span.Refused x) later i = absurd (List·Memᴰ·not-nil i)
 
   pub piece-of : (at : ℕ) (t : List ℕ) (x : A) → List·Memᴰ x (piecesIn f at t) → (p : ℕ) × (s : List ℕ) × (x ≡ f p s)
   unfolding piecesIn
@@ -147,7 +145,7 @@ module _ (at : ℕ) (s : List ℕ) where
   pub flow-stitches-rise : (t : Stitch) → List·Memᴰ t (flowIn at s .stitches) → Sorted ItemBefore (t .body)
   unfolding flowIn
   flow-stitches-rise t m =
-      let o = piece-of stitchIn (at + (5 + stitchesFrom (headingOf (drop 1 s)))) (drop (1 + stitchesFrom (headingOf (drop 1 s))) s) t m in
+      let o = piece-of stitchIn (at + (5 + titleEnd (headingOf (drop 1 s)))) (drop (1 + titleEnd (headingOf (drop 1 s))) s) t m in
       rw (o .2) (stitch-body-rises (o .0) (o .1))
 
 -- 5. A story

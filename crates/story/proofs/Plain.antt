@@ -15,7 +15,7 @@ use Rattle.story.specs.declared.HeadingRead.the-variants as heading
 use Rattle.records.specs.Items.{Kind, plain, temp, divert, tunnel, thread, call, variable, argument, choice, gather, parameter, stitchName, flowStart, code, What, is, Item, labelled, whatOf, itemAs, itemOf, itemsIn}
 use Rattle.story.specs.Story.{Name, Stitch, Flow, Story, words}
 use Rattle.story.specs.Headings.{headingOf}
-use Rattle.story.specs.Flows.{part, titledAt, titledIn, stitchIn, stitchesFrom, flowIn, flowsIn}
+use Rattle.story.specs.Flows.{part, titledAt, titledIn, stitchIn, titleEnd, flowIn, flowsIn}
 use Rattle.story.specs.File.{storyIn}
 use Rattle.story.specs.Plain.{notPlain, stitchWithoutPlain, flowWithoutPlain, withoutPlain, Unlabelled, UnlabelledFlow, UnlabelledStory}
 use Rattle.story.specs.Fewer.{Aligned, end, next, Matching, samePlaces, LikeName, Fewer, none, kept, left, FewerStitch, FewerFlow, FewerStory}
@@ -105,7 +105,7 @@ unfolding flowIn
 flow-unlabelled at s = record {
   body = titled-unlabelled (at + 5) (drop 1 s);
   stitches = λ t m.
-      let rest = stitchesFrom (headingOf (drop 1 s)) in
+      let rest = titleEnd (headingOf (drop 1 s)) in
       let o = piece-of stitchIn (at + (5 + rest)) (drop (1 + rest) s) t m in
       subst (λ (x : Stitch). Unlabelled (x .body)) (sym (o .2)) (stitch-unlabelled (o .0) (o .1));
 }

@@ -13,16 +13,12 @@ use borrow.Author.Tests.{ltb-true, ltb-false}
 use Rattle.fields.specs.declared.Refusal.{Refusal}
 use Rattle.fields.specs.declared.Refusal.the-variants.{Short}
 use Rattle.fields.specs.declared.Role.the-variants.{Node}
-use Rattle.fields.specs.declared.NameRead.{NameRead}
-use Rattle.fields.specs.declared.NameRead.the-variants as name
-use Rattle.fields.specs.declared.Span.{Span}
-use Rattle.fields.specs.declared.Span.the-variants as span
-use Rattle.fields.specs.Bytes.{pick, listOf, nameOf}
-use Rattle.fields.proofs.Laws.{name-fits, list-fits, to-end}
+use Rattle.fields.specs.declared.Reach.{Reach}
+use Rattle.fields.specs.declared.Reach.the-variants as reach
+use Rattle.fields.specs.Bytes.{Span, pick, listOf, nameOf, spanReach}
+use Rattle.fields.proofs.Laws.{name-fits, list-fits, span-to, span-refused, to-end}
 use Rattle.records.specs.Trace.{shift, Ending, well, refused, ends}
 use Rattle.records.specs.Grammar.{Reading, Reader, namedAt, listedAt, listed, recordOf, nodes, records}
-use Rattle.story.specs.declared.Reach.{Reach}
-use Rattle.story.specs.declared.Reach.the-variants as reach
 use Rattle.story.specs.declared.Heading.{Heading}
 use Rattle.story.specs.declared.HeadingRead.{HeadingRead}
 use Rattle.story.specs.declared.HeadingRead.the-variants as heading
@@ -39,13 +35,13 @@ unfolding namesReach reachAt
 names-fit s zero at {e} h q = let same : at ≡ e = cc in omega arith
 names-fit s (suc n) at {e} h q = by-name (nameOf (drop at s)) refl (λ k. names-fit s n (at + (1 + k))) q
   where
-    by-name : (r : NameRead) → r ≡ nameOf (drop at s) → ((k : ℕ) → at + (1 + k) ≤ length s → namesReach s n (at + (1 + k)) ≡ reach.To e → (at + (1 + k) ≤ e) × (e ≤ length s))
+    by-name : (r : Span) → r ≡ nameOf (drop at s) → ((k : ℕ) → at + (1 + k) ≤ length s → namesReach s n (at + (1 + k)) ≡ reach.To e → (at + (1 + k) ≤ e) × (e ≤ length s))
         → reachAt r (namesReach s n) at ≡ reach.To e → (at ≤ e) × (e ≤ length s)
-    by-name (name.Bytes k) p more q =
+    by-name (Span.Bytes k) p more q =
         let f = name-fits (drop at s) k p refl in
         let g = more k (omega (arith, length-drop at s)) q in
         omega arith
-    by-name (name.Refused r) p more q = let z : _≡_ {A = ℕ} 0 1 = cc in absurd (omega arith)
+    by-name (Span.Refused r) p more q = let z : _≡_ {A = ℕ} 0 1 = cc in absurd (omega arith)
 
 -- where a count byte and so many names are read, the byte is there and the names are read
 pub counted-read : (s : List ℕ) (at : ℕ) {e : ℕ} → countedReach s at ≡ reach.To e → (at < length s) × (namesReach s (getD s at 0) (at + 1) ≡ reach.To e)
@@ -68,16 +64,16 @@ pub record Laid (h : Heading) (s : List ℕ) : Type 0 where
   pub marks : h .marks + 5 ≤ h .nodes
   pub nodes : h .nodes ≤ h .end
   pub within : h .end ≤ length s
-  pub name-read : nameOf s ≡ name.Bytes (h .params - 1)
+  pub name-read : nameOf s ≡ Span.Bytes (h .params - 1)
   pub params-read : countedReach s (h .params) ≡ reach.To (h .marks)
   pub marks-read : countedReach s (h .marks) ≡ reach.To (h .nodes - 4)
-  pub list-read : listOf (drop (h .nodes - 4) s) ≡ span.Bytes (h .end - h .nodes)
+  pub list-read : listOf (drop (h .nodes - 4) s) ≡ Span.Bytes (h .end - h .nodes)
 
 module _ (s : List ℕ) (h : Heading) where
-  list-laid : (k marks list : ℕ) (r : Span) → nameOf s ≡ name.Bytes k → countedReach s (1 + k) ≡ reach.To marks → countedReach s marks ≡ reach.To list → r ≡ listOf (drop list s)
+  list-laid : (k marks list : ℕ) (r : Span) → nameOf s ≡ Span.Bytes k → countedReach s (1 + k) ≡ reach.To marks → countedReach s marks ≡ reach.To list → r ≡ listOf (drop list s)
       → listAt (1 + k) marks list r ≡ heading.At h → Laid h s
   unfolding listAt
-  list-laid k marks list (span.Bytes n) named params-to marks-to p q =
+  list-laid k marks list (Span.Bytes n) named params-to marks-to p q =
       let same : record { params = 1 + k; marks = marks; nodes = list + 4; end = list + 4 + n } ≡ h = cc in
       let a = counted-fits s (1 + k) refl params-to in
       let b = counted-fits s marks refl marks-to in
@@ -93,22 +89,22 @@ module _ (s : List ℕ) (h : Heading) where
         marks-read = rw (add-sub-cancel list 4) marks-to;
         list-read = rw (add-sub-cancel list 4, add-sub-cancel-left (list + 4) n) (sym p);
       })
-  list-laid k marks list span.Cut named params-to marks-to p q = let z : _≡_ {A = ℕ} 0 1 = cc in absurd (omega arith)
+  list-laid k marks list (Span.Refused x) named params-to marks-to p q = let z : _≡_ {A = ℕ} 0 1 = cc in absurd (omega arith)
 
-  marks-laid : (k marks : ℕ) (r : Reach) → nameOf s ≡ name.Bytes k → countedReach s (1 + k) ≡ reach.To marks → countedReach s marks ≡ r → marksAt (1 + k) marks r s ≡ heading.At h → Laid h s
+  marks-laid : (k marks : ℕ) (r : Reach) → nameOf s ≡ Span.Bytes k → countedReach s (1 + k) ≡ reach.To marks → countedReach s marks ≡ r → marksAt (1 + k) marks r s ≡ heading.At h → Laid h s
   unfolding marksAt
   marks-laid k marks (reach.To list) named params-to p q = list-laid k marks list (listOf (drop list s)) named params-to p refl q
   marks-laid k marks (reach.Refused x) named params-to p q = let z : _≡_ {A = ℕ} 0 1 = cc in absurd (omega arith)
 
-  params-laid : (k : ℕ) (r : Reach) → nameOf s ≡ name.Bytes k → countedReach s (1 + k) ≡ r → paramsAt (1 + k) r s ≡ heading.At h → Laid h s
+  params-laid : (k : ℕ) (r : Reach) → nameOf s ≡ Span.Bytes k → countedReach s (1 + k) ≡ r → paramsAt (1 + k) r s ≡ heading.At h → Laid h s
   unfolding paramsAt
   params-laid k (reach.To marks) named p q = marks-laid k marks (countedReach s marks) named p refl q
   params-laid k (reach.Refused x) named p q = let z : _≡_ {A = ℕ} 0 1 = cc in absurd (omega arith)
 
-  name-laid : (r : NameRead) → nameOf s ≡ r → nameThen r s ≡ heading.At h → Laid h s
+  name-laid : (r : Span) → nameOf s ≡ r → nameThen r s ≡ heading.At h → Laid h s
   unfolding nameThen
-  name-laid (name.Bytes k) p q = params-laid k (countedReach s (1 + k)) p refl q
-  name-laid (name.Refused x) p q = let z : _≡_ {A = ℕ} 0 1 = cc in absurd (omega arith)
+  name-laid (Span.Bytes k) p q = params-laid k (countedReach s (1 + k)) p refl q
+  name-laid (Span.Refused x) p q = let z : _≡_ {A = ℕ} 0 1 = cc in absurd (omega arith)
 
   pub heading-laid : {r : HeadingRead} → r ≡ headingOf s → r ≡ heading.At h → Laid h s
   unfolding headingOf
@@ -126,9 +122,9 @@ unfolding namesThen namesReach reachEnds reachAt namedAt ends
 names-ends zero k s at = refl
 names-ends (suc n) k s at = by-name (nameOf (drop at s)) (λ j. names-ends n k s (at + (1 + j)))
   where
-    by-name : (r : NameRead) → ((j : ℕ) → ends (namesThen n k (drop (at + (1 + j)) s)) ≡ reachEnds (namesReach s n (at + (1 + j))) k s) → ends (namedAt r (namesThen n k) (drop at s)) ≡ reachEnds (reachAt r (namesReach s n) at) k s
-    by-name (name.Bytes j) more = rw (ends-shift (1 + j) (namesThen n k (drop (1 + j) (drop at s))), drop-drop (1 + j) at s) (more j)
-    by-name (name.Refused r) more = refl
+    by-name : (r : Span) → ((j : ℕ) → ends (namesThen n k (drop (at + (1 + j)) s)) ≡ reachEnds (namesReach s n (at + (1 + j))) k s) → ends (namedAt r (namesThen n k) (drop at s)) ≡ reachEnds (reachAt r (namesReach s n) at) k s
+    by-name (Span.Bytes j) more = rw (ends-shift (1 + j) (namesThen n k (drop (1 + j) (drop at s))), drop-drop (1 + j) at s) (more j)
+    by-name (Span.Refused r) more = refl
 
 counted-ends : (k : Reading) (s : List ℕ) (at : ℕ) → ends (counted k (drop at s)) ≡ reachEnds (countedReach s at) k s
 unfolding countedReach counted reachEnds ends
@@ -148,22 +144,52 @@ counted-ends k s at = by-test (ltb at (length s)) refl
 
 -- 3. One name further
 
-pub reach-on : (s : List ℕ) (many at k : ℕ) {r : NameRead} → 0 < many → r ≡ nameOf (take (length s - at) (drop at s)) → r ≡ name.Bytes k → namesReach s many at ≡ namesReach s (many - 1) (at + (1 + k))
+pub reach-on : (s : List ℕ) (many at to : ℕ) {r : Reach} → 0 < many → r ≡ spanReach 1 (nameOf (take (length s - at) (drop at s))) → r ≡ reach.To to
+    → namesReach s many at ≡ namesReach s (many - 1) (at + to)
 unfolding namesReach reachAt
-reach-on s zero at k h p q = absurd (omega arith)
-reach-on s (suc many) at k h p q = rw (sub-one (suc many), ← to-end at s, ← p, q)
+reach-on s zero at to h p q = absurd (omega arith)
+reach-on s (suc many) at to h p q =
+    let first = span-to 1 (nameOf (take (length s - at) (drop at s))) p to q in
+    rw (sub-one (suc many), ← to-end at s, first .0, first .1)
 
-pub reach-refused : (s : List ℕ) (many at : ℕ) {x : Refusal} {r : NameRead} → 0 < many → r ≡ nameOf (take (length s - at) (drop at s)) → r ≡ name.Refused x → reach.Refused x ≡ namesReach s many at
+-- a refusal is the whole's
+pub reach-refused : (s : List ℕ) (many at : ℕ) (x : Refusal) {r : Reach} → 0 < many → r ≡ spanReach 1 (nameOf (take (length s - at) (drop at s))) → r ≡ reach.Refused x
+    → r ≡ namesReach s many at
 unfolding namesReach reachAt
-reach-refused s zero at h p q = absurd (omega arith)
-reach-refused s (suc many) at h p q = rw (← to-end at s, ← p, q)
+reach-refused s zero at x h p q = absurd (omega arith)
+reach-refused s (suc many) at x h p q = rw (← to-end at s, span-refused 1 (nameOf (take (length s - at) (drop at s))) p x q) q
 
 pub reach-end : (s : List ℕ) (many at : ℕ) → many ≤ 0 → reach.To at ≡ namesReach s many at
 unfolding namesReach
 reach-end s zero at h = refl
 reach-end s (suc many) at h = absurd (omega arith)
 
--- 4. A flow's or a stitch's title
+-- 4. A heading's name and its list, as the code learns of them
+
+module _ (x : Span) {r : Reach} where
+  pub name-then : (s : List ℕ) (to : ℕ) → r ≡ spanReach 1 x → r ≡ reach.To to → nameThen x s ≡ paramsAt to (countedReach s to) s
+  unfolding nameThen
+  name-then s to e q =
+      let h = span-to 1 x e to q in
+      rw (h .0, h .1)
+
+  pub name-then-refused : (s : List ℕ) (y : Refusal) → r ≡ spanReach 1 x → r ≡ reach.Refused y → heading.Refused y ≡ nameThen x s
+  unfolding nameThen
+  name-then-refused s y e q = rw (span-refused 1 x e y q)
+
+  pub list-at : (params marks list to : ℕ) → r ≡ spanReach 4 x → r ≡ reach.To to
+      → heading.At (record { params = params; marks = marks; nodes = list + 4; end = list + to }) ≡ listAt params marks list x
+  unfolding listAt
+  list-at params marks list to e q =
+      let h = span-to 4 x e to q in
+      let ends : list + 4 + (to - 4) ≡ list + to = omega (arith, h .1) in
+      rw (h .0, ends)
+
+  pub list-at-refused : (params marks list : ℕ) (y : Refusal) → r ≡ spanReach 4 x → r ≡ reach.Refused y → heading.Refused y ≡ listAt params marks list x
+  unfolding listAt
+  list-at-refused params marks list y e q = rw (span-refused 4 x e y q)
+
+-- 5. A flow's or a stitch's title
 
 -- the records of its node list
 abbrev body : Reader
@@ -172,7 +198,7 @@ body = recordOf 64 Node
 list-ends : (k : Reading) (s : List ℕ) (params marks list : ℕ) (r : Span) → r ≡ listOf (drop list s)
     → ends (listedAt r body k (drop list s)) ≡ reachEnds (titledReachAt (listAt params marks list r) s) k s
 unfolding listedAt listAt titledReachAt reachEnds reachOf thenEnds nodes part ends
-list-ends k s params marks list (span.Bytes n) p =
+list-ends k s params marks list (Span.Bytes n) p =
     rw (ends-then (shift 4 (records body (take n (drop 4 (drop list s))))) (shift (4 + n) (k (drop (4 + n) (drop list s)))), ends-shift 4 (records body (take n (drop 4 (drop list s)))), ends-shift (4 + n) (k (drop (4 + n) (drop list s))), drop-drop 4 list s, drop-drop (4 + n) list s, ← add-assoc list 4 n, same-part)
     (by-end (ends (nodes (part (list + 4) (list + 4 + n) s))))
   where
@@ -182,7 +208,7 @@ list-ends k s params marks list (span.Bytes n) p =
     by-end : (e : Ending) → thenEnds e (ends (k (drop (list + 4 + n) s))) ≡ reachEnds (reachOf e (list + 4 + n)) k s
     by-end well = refl
     by-end (refused x) = refl
-list-ends k s params marks list span.Cut p = refl
+list-ends k s params marks list (Span.Refused x) p = refl
 
 marks-ends : (k : Reading) (s : List ℕ) (params marks : ℕ) (r : Reach) → reachEnds r (listed body k) s ≡ reachEnds (titledReachAt (marksAt params marks r s) s) k s
 unfolding marksAt reachEnds titledReachAt
@@ -194,11 +220,11 @@ unfolding paramsAt reachEnds titledReachAt
 params-ends k s params (reach.To marks) = counted-ends (listed body k) s marks ∙ marks-ends k s params marks (countedReach s marks)
 params-ends k s params (reach.Refused x) = refl
 
-name-ends : (k : Reading) (s : List ℕ) (r : NameRead) → ends (namedAt r (counted (counted (listed body k))) s) ≡ reachEnds (titledReachAt (nameThen r s) s) k s
+name-ends : (k : Reading) (s : List ℕ) (r : Span) → ends (namedAt r (counted (counted (listed body k))) s) ≡ reachEnds (titledReachAt (nameThen r s) s) k s
 unfolding namedAt nameThen reachEnds titledReachAt ends
-name-ends k s (name.Bytes n) =
+name-ends k s (Span.Bytes n) =
     ends-shift (1 + n) (counted (counted (listed body k)) (drop (1 + n) s)) ∙ counted-ends (counted (listed body k)) s (1 + n) ∙ params-ends k s (1 + n) (countedReach s (1 + n))
-name-ends k s (name.Refused x) = refl
+name-ends k s (Span.Refused x) = refl
 
 -- a title ends as what reaches so far and is followed by k
 pub titled-ends : (k : Reading) (s : List ℕ) → ends (titled k s) ≡ reachEnds (titledReach s) k s

@@ -5,13 +5,9 @@ use Prim.Native.Nat.{ℕ, _+_, _≤_, _<_}
 use native.Mathlib.Omega.{arith}
 use lib.ListN.{length, take, drop}
 use Rattle.fields.specs.declared.Refusal.{Refusal}
-use Rattle.fields.specs.declared.NameRead.{NameRead}
-use Rattle.fields.specs.declared.NameRead.the-variants as name
 use Rattle.fields.specs.declared.FlagRead.{FlagRead}
 use Rattle.fields.specs.declared.FlagRead.the-variants as flag
-use Rattle.fields.specs.declared.Span.{Span}
-use Rattle.fields.specs.declared.Span.the-variants as span
-use Rattle.fields.specs.Bytes.{listOf, nameOf, flagOf}
+use Rattle.fields.specs.Bytes.{Span, listOf, nameOf, flagOf}
 use Rattle.fields.proofs.Laws.{list-fits, name-fits, off-fits, on-fits}
 use Rattle.records.specs.Trace.{Ending, well, refused, ends}
 use Rattle.records.specs.Grammar.{Reading, repeat, ending, nodes}
@@ -27,7 +23,7 @@ use Rattle.story.specs.File.{InOrder, openedOf, sectionsRead, readEnded,
 use Rattle.story.specs.Endings.{reachOf, titledReachAt, titledReach}
 use Rattle.story.proofs.Endings.{first-well, second-well}
 use Rattle.story.proofs.Reaches.{Laid, heading-laid, reachEnds, titled-ends}
-use Rattle.story.proofs.Pieces.{names-on, names-refused, pieces-step, pieces-cut}
+use Rattle.story.proofs.Pieces.{names-on, names-refused, pieces-step, pieces-end-refused}
 use Rattle.story.proofs.Titles.{flagEnds, flow-ends}
 use Rattle.story.proofs.Opening.{opened-in-order, sections-end}
 
@@ -70,34 +66,34 @@ readable s c p q =
 -- 2. Names
 
 module _ (t : List ℕ) (good : ends (names t) ≡ well) where
-  pub names-rest : (k : ℕ) {r : NameRead} → r ≡ nameOf t → r ≡ name.Bytes k → ends (names (drop (1 + k) t)) ≡ well
+  pub names-rest : (k : ℕ) {r : Span} → r ≡ nameOf t → r ≡ Span.Bytes k → ends (names (drop (1 + k) t)) ≡ well
   names-rest k p q = sym (names-on t k (omega (arith, name-fits t k p q)) p q) ∙ good
 
-  pub names-never-refused : {x : Refusal} {r : NameRead} → 0 < length t → r ≡ nameOf t → r ≡ name.Refused x → ⊥
+  pub names-never-refused : {x : Refusal} {r : Span} → 0 < length t → r ≡ nameOf t → r ≡ Span.Refused x → ⊥
   names-never-refused h p q = let e = names-refused t h p q in let z : _≡_ {A = ℕ} 0 1 = cc in omega arith
 
-  pub names-front : 0 < length t → (k : ℕ) × (nameOf t ≡ name.Bytes k)
+  pub names-front : 0 < length t → (k : ℕ) × (nameOf t ≡ Span.Bytes k)
   names-front h = by-name (nameOf t) refl
     where
-      by-name : (r : NameRead) → r ≡ nameOf t → (k : ℕ) × (nameOf t ≡ name.Bytes k)
-      by-name (name.Bytes k) p = (k, sym p)
-      by-name (name.Refused x) p = absurd (names-never-refused h p refl)
+      by-name : (r : Span) → r ≡ nameOf t → (k : ℕ) × (nameOf t ≡ Span.Bytes k)
+      by-name (Span.Bytes k) p = (k, sym p)
+      by-name (Span.Refused x) p = absurd (names-never-refused h p refl)
 
 -- 3. Pieces, each by g
 
 module _ (g : Reading) (t : List ℕ) (good : ends (repeat (piece g) t) ≡ well) where
-  pub piece-first : (n : ℕ) {r : Span} → r ≡ listOf t → r ≡ span.Bytes n → ends (g (take n (drop 4 t))) ≡ well
+  pub piece-first : (n : ℕ) {r : Span} → r ≡ listOf t → r ≡ Span.Bytes n → ends (g (take n (drop 4 t))) ≡ well
   piece-first n p q = first-well _ _ (sym (pieces-step g t n (omega (arith, list-fits t n p q)) p q) ∙ good)
 
-  pub piece-rest : (n : ℕ) {r : Span} → r ≡ listOf t → r ≡ span.Bytes n → ends (repeat (piece g) (drop (4 + n) t)) ≡ well
+  pub piece-rest : (n : ℕ) {r : Span} → r ≡ listOf t → r ≡ Span.Bytes n → ends (repeat (piece g) (drop (4 + n) t)) ≡ well
   piece-rest n p q = second-well (ends (g (take n (drop 4 t)))) _ (sym (pieces-step g t n (omega (arith, list-fits t n p q)) p q) ∙ good)
 
-  pub piece-never-cut : {r : Span} → 0 < length t → r ≡ listOf t → r ≡ span.Cut → ⊥
-  piece-never-cut h p q = let e = pieces-cut g t h p q in let z : _≡_ {A = ℕ} 0 1 = cc in omega arith
+  pub piece-never-refused : {x : Refusal} {r : Span} → 0 < length t → r ≡ listOf t → r ≡ Span.Refused x → ⊥
+  piece-never-refused h p q = let e = pieces-end-refused g t h p q in let z : _≡_ {A = ℕ} 0 1 = cc in omega arith
 
   -- where there is no further piece, nothing is left
-  pub piece-none-left : {r : Span} → r ≡ listOf t → r ≡ span.Cut → length t ≤ 0
-  piece-none-left p q = by-bytes t (λ h. piece-never-cut h p q)
+  pub piece-none-left : {x : Refusal} {r : Span} → r ≡ listOf t → r ≡ Span.Refused x → length t ≤ 0
+  piece-none-left p q = by-bytes t (λ h. piece-never-refused h p q)
     where
       by-bytes : (s : List ℕ) → (0 < length s → ⊥) → length s ≤ 0
       by-bytes [] never = omega arith

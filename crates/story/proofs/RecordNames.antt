@@ -12,12 +12,10 @@ use Rattle.fields.specs.declared.Role.{Role}
 use Rattle.fields.specs.declared.Role.the-variants.{Node, Branch, Cond, Visited, Argument, Unvisited}
 use Rattle.fields.specs.declared.Body.{Body}
 use Rattle.fields.specs.declared.Body.the-variants as body
-use Rattle.fields.specs.declared.NameRead.{NameRead}
-use Rattle.fields.specs.declared.NameRead.the-variants as name
 use Rattle.fields.specs.declared.FlagRead.the-variants as flag
 use Rattle.fields.specs.declared.Kinded.{Kinded}
 use Rattle.fields.specs.declared.Kinded.the-variants.{Known, None}
-use Rattle.fields.specs.Bytes.{pick, nameOf, flagOf}
+use Rattle.fields.specs.Bytes.{Span, pick, nameOf, flagOf}
 use Rattle.fields.specs.Kinds.{exprKinds, exprKind, condKinds, condKind, nodeKinds, nodeKind, kindOf}
 use Rattle.records.specs.Trace.{refuse, shift, well, ends}
 use Rattle.records.specs.Grammar.{Reading, Reader, namedAt, named, flaggedAt, flagged, moded, records, exact, ending, options, bodyOf, recordOf}
@@ -29,15 +27,15 @@ use Rattle.story.proofs.WellInside.{Bears}
 
 -- a name stands at the front
 abbrev pub HasName : List ℕ → Type 0
-HasName s = (k : ℕ) × (nameOf s ≡ name.Bytes k)
+HasName s = (k : ℕ) × (nameOf s ≡ Span.Bytes k)
 
 named-well : (k : Reading) (s : List ℕ) → ends (named k s) ≡ well → HasName s
 unfolding namedAt ends
 named-well k s e = by-name (nameOf s) refl e
   where
-    by-name : (r : NameRead) → nameOf s ≡ r → ends (namedAt r k s) ≡ well → HasName s
-    by-name (name.Bytes n) p q = (n, p)
-    by-name (name.Refused x) p q = let z : _≡_ {A = ℕ} 0 1 = cc in absurd (omega arith)
+    by-name : (r : Span) → nameOf s ≡ r → ends (namedAt r k s) ≡ well → HasName s
+    by-name (Span.Bytes n) p q = (n, p)
+    by-name (Span.Refused x) p q = let z : _≡_ {A = ℕ} 0 1 = cc in absurd (omega arith)
 
 moded-well : (k : Reading) (s : List ℕ) → ends (moded (named k) s) ≡ well → HasName (drop 1 s)
 unfolding moded ends

@@ -6,9 +6,7 @@ use native.Mathlib.Nat.{add-assoc}
 use native.Mathlib.Omega.{arith}
 use lib.ListN.{length, take, drop}
 use Rattle.fields.specs.declared.Role.the-variants.{Node}
-use Rattle.fields.specs.declared.Head.{Head}
-use Rattle.fields.specs.declared.Head.the-variants as head
-use Rattle.fields.specs.Bytes.{headOf}
+use Rattle.fields.specs.Bytes.{Head, headOf}
 use Rattle.records.specs.Trace.{Trace, done, refuse, emit, andThen, shift, Record, met, well, ends}
 use Rattle.records.specs.Grammar.{frontAt, front, recordOf, records, nodes}
 use Rattle.records.proofs.Readings.{front-local, repeat-none, repeat-step}
@@ -36,7 +34,7 @@ met-shift b k (emit role kind p bs t) = rw (add-assoc b k p, met-shift b k t)
 -- nodes that are read well: none, or a record of depth 1 and then nodes that are read well
 pub data Nodes (t : List ℕ) : Type 0 where
   none : length t ≤ 0 → Nodes t
-  next : (kind n : ℕ) → headOf t ≡ head.Piece kind n → ends (nodes (drop (5 + n) t)) ≡ well
+  next : (kind n : ℕ) → headOf t ≡ Head.Piece kind n → ends (nodes (drop (5 + n) t)) ≡ well
       → ((b : ℕ) → met b (nodes t) ≡ met b (recordOf 64 Node kind (take n (drop 5 t))) ++ met (b + (5 + n)) (nodes (drop (5 + n) t))) → Nodes t
 
 -- no byte, no record
@@ -54,10 +52,10 @@ nodes-front (x ∷ u) good = by-head (headOf (x ∷ u)) refl (rw step at good)
     step = repeat-step (front (recordOf 64 Node)) (front-local (recordOf 64 Node)) (x ∷ u) (omega arith)
 
     by-head : (h : Head) → headOf (x ∷ u) ≡ h → ends (frontAt h (recordOf 64 Node) (records (recordOf 64 Node)) (x ∷ u)) ≡ well → Nodes (x ∷ u)
-    by-head (head.Piece kind n) e w =
+    by-head (Head.Piece kind n) e w =
         let first = recordOf 64 Node kind (take n (drop 5 (x ∷ u))) in
         let rest = records (recordOf 64 Node) (drop (5 + n) (x ∷ u)) in
         let both = sym (ends-then first (shift (5 + n) rest)) ∙ w in
         next kind n e (sym (ends-shift (5 + n) rest) ∙ second-well (ends first) _ both)
         (λ b. rw (step, e) (met-then b first (shift (5 + n) rest) (first-well _ _ both) ∙ rw (met-shift b (5 + n) rest)))
-    by-head head.Cut e w = let z : _≡_ {A = ℕ} 0 1 = cc in absurd (omega arith)
+    by-head (Head.Refused x) e w = let z : _≡_ {A = ℕ} 0 1 = cc in absurd (omega arith)

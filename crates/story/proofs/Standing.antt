@@ -4,9 +4,7 @@ use mathlib.Core.List.{List, [], _∷_, map, List·Memᴰ, Memᴰ·of-map}
 use Prim.Native.Nat.{ℕ, _+_, _-_, _≤_, _<_}
 use native.Mathlib.Omega.{arith}
 use lib.ListN.{length, take, drop}
-use Rattle.fields.specs.declared.Span.{Span}
-use Rattle.fields.specs.declared.Span.the-variants as span
-use Rattle.fields.specs.Bytes.{listOf}
+use Rattle.fields.specs.Bytes.{Span, listOf}
 use Rattle.fields.proofs.Laws.{list-fits}
 use Rattle.names.specs.Words.{Sorted}
 use Rattle.records.specs.Trace.{andThen, shift, Record, met, Ending, well, refused, ends}
@@ -46,12 +44,12 @@ unfolding pieceAt Placed
 piece-places g k f h s = by-span (listOf s) refl
   where
     by-span : (x : Span) → listOf s ≡ x → Placed s 0 (length s) (pieceAt x g k s)
-    by-span (span.Bytes n) e =
+    by-span (Span.Bytes n) e =
         let fits : 4 + n ≤ length s = list-fits s n refl e in
         let t = g (take n (drop 4 s)) in
         placed-then s (shift 4 t) (shift (4 + n) (k (drop (4 + n) s))) (omega arith) fits
         (placed-wider s (shift 4 t) (omega arith) (omega arith) (part-placed 4 n s g f fits)) (rest-placed (4 + n) s k h fits)
-    by-span span.Cut e = tt
+    by-span (Span.Refused x) e = tt
 
 pub pieces-places : (g : Reading) → Places g → Places (repeat (piece g))
 pieces-places g f = repeat-places (piece g) (λ k h. piece-places g k f h)

@@ -6,11 +6,9 @@ use native.Mathlib.Nat.{add-assoc, zero-add}
 use native.Mathlib.Omega.{arith}
 use lib.ListN.{length, take, drop}
 use lib.Seq.{drop-drop}
-use Rattle.fields.specs.declared.Span.{Span}
-use Rattle.fields.specs.declared.Span.the-variants as span
 use Rattle.fields.specs.declared.FlagRead.{FlagRead}
 use Rattle.fields.specs.declared.FlagRead.the-variants as flag
-use Rattle.fields.specs.Bytes.{listOf, flagOf}
+use Rattle.fields.specs.Bytes.{Span, listOf, flagOf}
 use Rattle.names.specs.Words.{each}
 use Rattle.records.specs.Trace.{Trace, andThen, shift, met, Ending, well, refused, ends}
 use Rattle.records.specs.Grammar.{Reading, repeatN, repeat, ending, flaggedAt, nodes}
@@ -19,7 +17,7 @@ use Rattle.story.specs.declared.HeadingRead.{HeadingRead}
 use Rattle.story.specs.declared.HeadingRead.the-variants as heading
 use Rattle.records.specs.Items.{Item, itemOf, itemsAs, itemsIn}
 use Rattle.story.specs.Headings.{headingOf}
-use Rattle.story.specs.Flows.{names, pieceAt, piece, titled, stitch, stitches, flow, flows, part, titledAt, titledIn, piecesAt, piecesN, piecesIn, stitchIn, stitchesFrom, flowIn, flowsIn}
+use Rattle.story.specs.Flows.{names, pieceAt, piece, titled, stitch, stitches, flow, flows, part, titledAt, titledIn, piecesAt, piecesN, piecesIn, stitchIn, titleEnd, flowIn, flowsIn}
 use Rattle.story.specs.File.{sectionsRead, storyIn}
 use Rattle.story.proofs.Endings.{ends-then, ends-shift, first-well, second-well}
 use Rattle.records.specs.Work.{itemsOf}
@@ -73,13 +71,13 @@ module _ {A : Type 0} (g : Reading) (f : ℕ → List ℕ → A) (items : A → 
       by-span : (r : Span) → ends (pieceAt r g (repeatN n (piece g)) (x ∷ s)) ≡ well
           → ((k : ℕ) → ends (repeatN n (piece g) (drop (4 + k) (x ∷ s))) ≡ well → itemsOf (b + (4 + k)) (repeatN n (piece g) (drop (4 + k) (x ∷ s))) ≡ each items (piecesN n f (b + (4 + k)) (drop (4 + k) (x ∷ s))))
           → itemsOf b (pieceAt r g (repeatN n (piece g)) (x ∷ s)) ≡ each items (piecesAt r f (piecesN n f) b (x ∷ s))
-      by-span (span.Bytes k) h later =
+      by-span (Span.Bytes k) h later =
           let p = g (take k (drop 4 (x ∷ s))) in
           let q = repeatN n (piece g) (drop (4 + k) (x ∷ s)) in
           let w = both-well (shift 4 p) (shift (4 + k) q) h in
           items-then b (shift 4 p) (shift (4 + k) q) (w .0)
           ∙ rw (items-shift b 4 p, items-shift b (4 + k) q, one b (take k (drop 4 (x ∷ s))) (shift-well 4 p (w .0)), later k (shift-well (4 + k) q (w .1)))
-      by-span span.Cut h later = let z : _≡_ {A = ℕ} 0 1 = cc in absurd (omega arith)
+      by-span (Span.Refused x) h later = let z : _≡_ {A = ℕ} 0 1 = cc in absurd (omega arith)
 
   pub pieces-items : (b : ℕ) (s : List ℕ) → ends (repeat (piece g) s) ≡ well → itemsOf b (repeat (piece g) s) ≡ each items (piecesIn f b s)
   unfolding repeat piecesIn
@@ -104,8 +102,8 @@ stitch-items b s h = rw (titled-trace ending s) (stitch-at (b + 4) s (headingOf 
 
 -- a flow from its name on, which stands at b
 flow-at : (b : ℕ) (s : List ℕ) (r : HeadingRead) → ends (titleTrace r stitches s) ≡ well
-    → itemsOf b (titleTrace r stitches s) ≡ titledAt r b s .body ++ each stitchItems (piecesIn stitchIn (b + stitchesFrom r) (drop (stitchesFrom r) s))
-unfolding titleTrace titledAt stitchesFrom ends
+    → itemsOf b (titleTrace r stitches s) ≡ titledAt r b s .body ++ each stitchItems (piecesIn stitchIn (b + titleEnd r) (drop (titleEnd r) s))
+unfolding titleTrace titledAt titleEnd ends
 flow-at b s (heading.At h) e =
     let p = nodes (part (h .nodes) (h .end) s) in
     let q = stitches (drop (h .end) s) in
@@ -118,7 +116,7 @@ flow-named : (b : ℕ) (s : List ℕ) → ends (titled stitches (drop 1 s)) ≡ 
 unfolding flowIn flowItems titledIn
 flow-named b s h =
     let r = headingOf (drop 1 s) in
-    rw (titled-trace stitches (drop 1 s), ← add-assoc b 5 (stitchesFrom r), ← drop-drop (stitchesFrom r) 1 s)
+    rw (titled-trace stitches (drop 1 s), ← add-assoc b 5 (titleEnd r), ← drop-drop (titleEnd r) 1 s)
     (flow-at (b + 5) (drop 1 s) r (sym (ap ends (titled-trace stitches (drop 1 s))) ∙ h))
 
 flow-flagged : (b : ℕ) (s : List ℕ) (r : FlagRead) → ends (flaggedAt r (titled stitches) (titled stitches) s) ≡ well

@@ -11,16 +11,12 @@ use lib.Seq.{drop-drop, drop-cons}
 use borrow.Author.Tests.{ltb-true, ltb-false}
 use Rattle.fields.specs.declared.Refusal.the-variants.{Short}
 use Rattle.fields.specs.declared.Role.the-variants.{Node}
-use Rattle.fields.specs.declared.NameRead.{NameRead}
-use Rattle.fields.specs.declared.NameRead.the-variants as name
-use Rattle.fields.specs.declared.Span.{Span}
-use Rattle.fields.specs.declared.Span.the-variants as span
-use Rattle.fields.specs.Bytes.{pick, listOf, nameOf}
+use Rattle.fields.specs.declared.Reach.{Reach}
+use Rattle.fields.specs.declared.Reach.the-variants as reach
+use Rattle.fields.specs.Bytes.{Span, pick, listOf, nameOf}
 use Rattle.records.specs.Trace.{Trace, done, refuse, andThen, shift, Ending, well, refused, ends}
 use Rattle.records.specs.Grammar.{Reading, Reader, namedAt, named, listedAt, listed, recordOf, nodes, records, repeatN, repeat}
 use Rattle.records.proofs.Traces.{shift-then, shift-shift}
-use Rattle.story.specs.declared.Reach.{Reach}
-use Rattle.story.specs.declared.Reach.the-variants as reach
 use Rattle.story.specs.declared.HeadingRead.{HeadingRead}
 use Rattle.story.specs.declared.HeadingRead.the-variants as heading
 use Rattle.story.specs.Headings.{reachAt, namesReach, countedReach, listAt, marksAt, paramsAt, nameThen, headingOf}
@@ -43,10 +39,10 @@ unfolding namesThen namesReach reachTrace reachAt namedAt shift
 names-trace zero k s at = refl
 names-trace (suc n) k s at = by-name (nameOf (drop at s)) (λ j. names-trace n k s (at + (1 + j)))
   where
-    by-name : (r : NameRead) → ((j : ℕ) → shift (at + (1 + j)) (namesThen n k (drop (at + (1 + j)) s)) ≡ reachTrace (namesReach s n (at + (1 + j))) k s)
+    by-name : (r : Span) → ((j : ℕ) → shift (at + (1 + j)) (namesThen n k (drop (at + (1 + j)) s)) ≡ reachTrace (namesReach s n (at + (1 + j))) k s)
         → shift at (namedAt r (namesThen n k) (drop at s)) ≡ reachTrace (reachAt r (namesReach s n) at) k s
-    by-name (name.Bytes j) more = rw (shift-shift at (1 + j) (namesThen n k (drop (1 + j) (drop at s))), drop-drop (1 + j) at s) (more j)
-    by-name (name.Refused r) more = refl
+    by-name (Span.Bytes j) more = rw (shift-shift at (1 + j) (namesThen n k (drop (1 + j) (drop at s))), drop-drop (1 + j) at s) (more j)
+    by-name (Span.Refused r) more = refl
 
 counted-trace : (k : Reading) (s : List ℕ) (at : ℕ) → shift at (counted k (drop at s)) ≡ reachTrace (countedReach s at) k s
 unfolding countedReach counted reachTrace shift
@@ -70,9 +66,9 @@ body = recordOf 64 Node
 
 list-trace : (k : Reading) (s : List ℕ) (params marks list : ℕ) (r : Span) → shift list (listedAt r body k (drop list s)) ≡ titleTrace (listAt params marks list r) k s
 unfolding listedAt listAt titleTrace nodes part shift
-list-trace k s params marks list (span.Bytes n) =
+list-trace k s params marks list (Span.Bytes n) =
     rw (shift-then list (shift 4 (records body (take n (drop 4 (drop list s))))) (shift (4 + n) (k (drop (4 + n) (drop list s)))), shift-shift list 4 (records body (take n (drop 4 (drop list s)))), shift-shift list (4 + n) (k (drop (4 + n) (drop list s))), drop-drop 4 list s, drop-drop (4 + n) list s, ← add-assoc list 4 n, add-sub-cancel-left (list + 4) n)
-list-trace k s params marks list span.Cut = refl
+list-trace k s params marks list (Span.Refused x) = refl
 
 marks-trace : (k : Reading) (s : List ℕ) (params marks : ℕ) (r : Reach) → reachTrace r (listed body k) s ≡ titleTrace (marksAt params marks r s) k s
 unfolding marksAt reachTrace titleTrace
@@ -84,10 +80,10 @@ unfolding paramsAt reachTrace titleTrace
 params-trace k s params (reach.To marks) = counted-trace (listed body k) s marks ∙ marks-trace k s params marks (countedReach s marks)
 params-trace k s params (reach.Refused x) = refl
 
-name-trace : (k : Reading) (s : List ℕ) (r : NameRead) → namedAt r (counted (counted (listed body k))) s ≡ titleTrace (nameThen r s) k s
+name-trace : (k : Reading) (s : List ℕ) (r : Span) → namedAt r (counted (counted (listed body k))) s ≡ titleTrace (nameThen r s) k s
 unfolding namedAt nameThen titleTrace
-name-trace k s (name.Bytes n) = counted-trace (counted (listed body k)) s (1 + n) ∙ params-trace k s (1 + n) (countedReach s (1 + n))
-name-trace k s (name.Refused x) = refl
+name-trace k s (Span.Bytes n) = counted-trace (counted (listed body k)) s (1 + n) ∙ params-trace k s (1 + n) (countedReach s (1 + n))
+name-trace k s (Span.Refused x) = refl
 
 -- a flow or a stitch from its name on
 pub titled-trace : (k : Reading) (s : List ℕ) → titled k s ≡ titleTrace (headingOf s) k s
@@ -112,10 +108,10 @@ names-n-quiet zero s = refl
 names-n-quiet (suc n) [] = refl
 names-n-quiet (suc n) (x ∷ s) = by-name (nameOf (x ∷ s)) (λ j. names-n-quiet n (drop (1 + j) (x ∷ s)))
   where
-    by-name : (r : NameRead) → ((j : ℕ) → repeatN n named (drop (1 + j) (x ∷ s)) ≡ quiet (ends (repeatN n named (drop (1 + j) (x ∷ s)))))
+    by-name : (r : Span) → ((j : ℕ) → repeatN n named (drop (1 + j) (x ∷ s)) ≡ quiet (ends (repeatN n named (drop (1 + j) (x ∷ s)))))
         → namedAt r (repeatN n named) (x ∷ s) ≡ quiet (ends (namedAt r (repeatN n named) (x ∷ s)))
-    by-name (name.Bytes j) more = rw (more j) (shift-quiet (1 + j) (ends (repeatN n named (drop (1 + j) (x ∷ s)))))
-    by-name (name.Refused r) more = refl
+    by-name (Span.Bytes j) more = rw (more j) (shift-quiet (1 + j) (ends (repeatN n named (drop (1 + j) (x ∷ s)))))
+    by-name (Span.Refused r) more = refl
 
 pub names-quiet : (s : List ℕ) → names s ≡ quiet (ends (names s))
 unfolding names repeat

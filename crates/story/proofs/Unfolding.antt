@@ -7,12 +7,9 @@ use native.Mathlib.Numerals.{sub-one}
 use native.Mathlib.Omega.{arith}
 use lib.Dec.{ltb, eqb}
 use lib.ListN.{length, getD, take, drop, length-drop}
+use Rattle.fields.specs.declared.Refusal.{Refusal}
 use Rattle.fields.specs.declared.Refusal.the-variants.{Short}
-use Rattle.fields.specs.declared.NameRead.{NameRead}
-use Rattle.fields.specs.declared.NameRead.the-variants as name
-use Rattle.fields.specs.declared.Span.{Span}
-use Rattle.fields.specs.declared.Span.the-variants as span
-use Rattle.fields.specs.Bytes.{pick, listOf, nameOf}
+use Rattle.fields.specs.Bytes.{Span, pick, listOf, nameOf}
 use Rattle.fields.proofs.Laws.{list-fits, name-fits}
 use Rattle.story.specs.declared.Heading.{Heading}
 use Rattle.story.specs.declared.HeadingRead.{HeadingRead}
@@ -20,7 +17,7 @@ use Rattle.story.specs.declared.HeadingRead.the-variants as heading
 use Rattle.story.specs.Story.{Name}
 use Rattle.records.specs.Items.{nameIn, itemsIn}
 use Rattle.story.specs.Headings.{headingOf}
-use Rattle.story.specs.Flows.{namesN, countedIn, part, titledAt, titledIn, piecesAt, piecesN, piecesIn, stitchIn, stitchesFrom, flowIn}
+use Rattle.story.specs.Flows.{namesN, countedIn, part, titledAt, titledIn, piecesAt, piecesN, piecesIn, stitchIn, titleEnd, flowIn}
 
 one-more : (n : ℕ) → 1 + n ≡ suc n
 one-more n = omega arith
@@ -28,11 +25,11 @@ one-more n = omega arith
 -- 1. Names
 
 -- the count byte of a name that is read
-pub name-count : (t : List ℕ) (k : ℕ) {r : NameRead} → r ≡ nameOf t → r ≡ name.Bytes k → getD t 0 0 ≡ k
+pub name-count : (t : List ℕ) (k : ℕ) {r : Span} → r ≡ nameOf t → r ≡ Span.Bytes k → getD t 0 0 ≡ k
 unfolding nameOf
 name-count t k p q = by-tests (ltb (length t) 1) (ltb (length t - 1) (getD t 0 0)) (sym p ∙ q)
   where
-    by-tests : (i j : Bool) → pick i (name.Refused Short) (pick j (name.Refused Short) (name.Bytes (getD t 0 0))) ≡ name.Bytes k → getD t 0 0 ≡ k
+    by-tests : (i j : Bool) → pick i (Span.Refused Short) (pick j (Span.Refused Short) (Span.Bytes (getD t 0 0))) ≡ Span.Bytes k → getD t 0 0 ≡ k
     by-tests true j e = let z : _≡_ {A = ℕ} 0 1 = cc in absurd (omega arith)
     by-tests false true e = let z : _≡_ {A = ℕ} 0 1 = cc in absurd (omega arith)
     by-tests false false e = cc
@@ -53,7 +50,7 @@ names-n-none (suc n) at [] h = refl
 names-n-none n at (x ∷ t) h = absurd (omega arith)
 
 -- the first of at most n names, then the others
-pub names-n-step : (n at k : ℕ) (t : List ℕ) {r : NameRead} → 0 < n → r ≡ nameOf t → r ≡ name.Bytes k
+pub names-n-step : (n at k : ℕ) (t : List ℕ) {r : Span} → 0 < n → r ≡ nameOf t → r ≡ Span.Bytes k
     → namesN n at t ≡ front at k t ∷ namesN (n - 1) (at + (1 + k)) (drop (1 + k) t)
 unfolding namesN
 names-n-step zero at k t h p q = absurd (omega arith)
@@ -77,23 +74,23 @@ module _ {A : Type 0} (f : ℕ → List ℕ → A) where
     where
       by-span : (r : Span) → r ≡ listOf t → ((k : ℕ) → length (drop (4 + k) t) ≤ n → length (drop (4 + k) t) ≤ m → piecesN n f (at + (4 + k)) (drop (4 + k) t) ≡ piecesN m f (at + (4 + k)) (drop (4 + k) t))
           → piecesAt r f (piecesN n f) at t ≡ piecesAt r f (piecesN m f) at t
-      by-span (span.Bytes k) e later =
+      by-span (Span.Bytes k) e later =
           let fits = list-fits t k e refl in
           rw (later k (omega (arith, length-drop (4 + k) t)) (omega (arith, length-drop (4 + k) t)))
-      by-span span.Cut e later = refl
+      by-span (Span.Refused x) e later = refl
 
   pub pieces-in-none : (at : ℕ) (t : List ℕ) → length t ≤ 0 → piecesIn f at t ≡ []
   unfolding piecesIn piecesN
   pieces-in-none at [] h = refl
   pieces-in-none at (x ∷ t) h = absurd (omega arith)
 
-  pub pieces-in-cut : (at : ℕ) (t : List ℕ) {r : Span} → r ≡ listOf t → r ≡ span.Cut → piecesIn f at t ≡ []
+  pub pieces-in-refused : (at : ℕ) (t : List ℕ) {x : Refusal} {r : Span} → r ≡ listOf t → r ≡ Span.Refused x → piecesIn f at t ≡ []
   unfolding piecesIn piecesN piecesAt
-  pieces-in-cut at [] p q = refl
-  pieces-in-cut at (x ∷ t) p q = rw (← p, q)
+  pieces-in-refused at [] p q = refl
+  pieces-in-refused at (y ∷ t) p q = rw (← p, q)
 
   -- the first piece, then the others
-  pub pieces-in-step : (at n : ℕ) (t : List ℕ) {r : Span} → r ≡ listOf t → r ≡ span.Bytes n
+  pub pieces-in-step : (at n : ℕ) (t : List ℕ) {r : Span} → r ≡ listOf t → r ≡ Span.Bytes n
       → piecesIn f at t ≡ f at (take n (drop 4 t)) ∷ piecesIn f (at + (4 + n)) (drop (4 + n) t)
   unfolding piecesIn piecesN piecesAt
   pieces-in-step at n [] p q = absurd (omega (arith, list-fits [] n p q))
@@ -126,5 +123,5 @@ module _ (at : ℕ) (s : List ℕ) (h : Heading) {r : HeadingRead} where
         body = itemsIn (at + 5 + h .nodes) (part (h .nodes) (h .end) (drop 1 s));
         stitches = piecesIn stitchIn (at + (5 + h .end)) (drop (1 + h .end) s);
       }
-  unfolding flowIn titledIn titledAt stitchesFrom
+  unfolding flowIn titledIn titledAt titleEnd
   flow-in p q = rw (← p, q)

@@ -12,18 +12,12 @@ use Rattle.fields.specs.declared.Role.{Role}
 use Rattle.fields.specs.declared.Role.the-variants.{Node, Branch, Cond, Visited, Argument, Unvisited}
 use Rattle.fields.specs.declared.Body.{Body}
 use Rattle.fields.specs.declared.Body.the-variants as body
-use Rattle.fields.specs.declared.Head.{Head}
-use Rattle.fields.specs.declared.Head.the-variants as head
-use Rattle.fields.specs.declared.Span.{Span}
-use Rattle.fields.specs.declared.Span.the-variants as span
-use Rattle.fields.specs.declared.NameRead.{NameRead}
-use Rattle.fields.specs.declared.NameRead.the-variants as name
 use Rattle.fields.specs.declared.FlagRead.{FlagRead}
 use Rattle.fields.specs.declared.FlagRead.the-variants as flag
 use Rattle.fields.specs.declared.Kinded.{Kinded}
 use Rattle.fields.specs.declared.Kinded.the-variants as kinded
 use Rattle.fields.specs.declared.Refusal.the-variants.{Unknown}
-use Rattle.fields.specs.Bytes.{pick, headOf, listOf, nameOf, flagOf}
+use Rattle.fields.specs.Bytes.{Head, Span, pick, headOf, listOf, nameOf, flagOf}
 use Rattle.fields.specs.Kinds.{kindOf, nodeKinds, nodeKind, condKinds, condKind, exprKinds, exprKind}
 use Rattle.fields.proofs.Laws.{head-fits, list-fits, name-fits, off-fits, on-fits}
 use Rattle.records.specs.Trace.{Trace, done, refuse, emit, andThen, shift, met, Ending, well, refused, ends}
@@ -163,13 +157,13 @@ unfolding frontAt ends
 front-weighs f k g h s = by-head (headOf s) refl
   where
     by-head : (x : Head) → headOf s ≡ x → ends (frontAt x f k s) ≡ well → 0 + cost (frontAt x f k s) ≤ length s
-    by-head (head.Piece kind n) e z =
+    by-head (Head.Piece kind n) e z =
         let fits : 5 + n ≤ length s = head-fits s kind n refl e in
         let t = f kind (take n (drop 5 s)) in
         let u = k (drop (5 + n) s) in
         let w = both-well t (shift (5 + n) u) z in
         omega (arith, cost-then t (shift (5 + n) u), cost-shift (5 + n) u, g kind (take n (drop 5 s)) (w .0), h (drop (5 + n) s) (shift-well (5 + n) u (w .1)), length-take n (drop 5 s), length-drop (5 + n) s)
-    by-head head.Cut e z = let y : _≡_ {A = ℕ} 0 1 = cc in absurd (omega arith)
+    by-head (Head.Refused x) e z = let y : _≡_ {A = ℕ} 0 1 = cc in absurd (omega arith)
 
 ending-weighs : Weighs 0 ending
 unfolding ending cost
@@ -198,21 +192,21 @@ unfolding listedAt ends
 listed-weighs f k g h s z = omega (arith, by-span (listOf s) refl z)
   where
     by-span : (x : Span) → listOf s ≡ x → ends (listedAt x f k s) ≡ well → cost (listedAt x f k s) ≤ length s
-    by-span (span.Bytes n) e z =
+    by-span (Span.Bytes n) e z =
         let fits : 4 + n ≤ length s = list-fits s n refl e in
         let t = records f (take n (drop 4 s)) in
         let u = k (drop (4 + n) s) in
         two-parts 4 (4 + n) t u (length s) z (λ x y. omega (arith, records-weigh f g (take n (drop 4 s)) x, h (drop (4 + n) s) y, length-take n (drop 4 s), length-drop (4 + n) s))
-    by-span span.Cut e z = let y : _≡_ {A = ℕ} 0 1 = cc in absurd (omega arith)
+    by-span (Span.Refused x) e z = let y : _≡_ {A = ℕ} 0 1 = cc in absurd (omega arith)
 
 named-weighs : (k : Reading) → Weighs 0 k → Weighs 1 (named k)
 unfolding namedAt ends
 named-weighs k h s = by-name (nameOf s) refl
   where
-    by-name : (x : NameRead) → nameOf s ≡ x → ends (namedAt x k s) ≡ well → 1 + cost (namedAt x k s) ≤ length s
-    by-name (name.Bytes n) e z =
+    by-name : (x : Span) → nameOf s ≡ x → ends (namedAt x k s) ≡ well → 1 + cost (namedAt x k s) ≤ length s
+    by-name (Span.Bytes n) e z =
         omega (arith, name-fits s n refl e, cost-shift (1 + n) (k (drop (1 + n) s)), h (drop (1 + n) s) (shift-well (1 + n) (k (drop (1 + n) s)) z), length-drop (1 + n) s)
-    by-name (name.Refused r) e z = let y : _≡_ {A = ℕ} 0 1 = cc in absurd (omega arith)
+    by-name (Span.Refused r) e z = let y : _≡_ {A = ℕ} 0 1 = cc in absurd (omega arith)
 
 flagged-weighs : (j k : Reading) → Weighs 0 j → Weighs 0 k → Weighs 1 (flagged j k)
 unfolding flaggedAt ends
@@ -305,11 +299,11 @@ unfolding pieceAt ends
 piece-weighs g k f h s z = omega (arith, by-span (listOf s) refl z)
   where
     by-span : (x : Span) → listOf s ≡ x → ends (pieceAt x g k s) ≡ well → cost (pieceAt x g k s) ≤ length s
-    by-span (span.Bytes n) e z =
+    by-span (Span.Bytes n) e z =
         let fits : 4 + n ≤ length s = list-fits s n refl e in
         two-parts 4 (4 + n) (g (take n (drop 4 s))) (k (drop (4 + n) s)) (length s) z
         (λ x y. omega (arith, f (take n (drop 4 s)) x, h (drop (4 + n) s) y, length-take n (drop 4 s), length-drop (4 + n) s))
-    by-span span.Cut e z = let y : _≡_ {A = ℕ} 0 1 = cc in absurd (omega arith)
+    by-span (Span.Refused x) e z = let y : _≡_ {A = ℕ} 0 1 = cc in absurd (omega arith)
 
 pieces-weigh : (g : Reading) → Weighs 0 g → Weighs 0 (repeat (piece g))
 pieces-weigh g f = repeat-weighs (piece g) (λ k h. piece-weighs g k f h)

@@ -10,7 +10,7 @@ use Rattle.story.specs.declared.Sections.{Sections}
 use Rattle.story.specs.declared.Opened.the-variants as opened
 use Rattle.records.specs.Items.{Item, sortOf, itemAs, itemOf, itemsAs, itemsIn}
 use Rattle.story.specs.Headings.{reachAt, namesReach, countedReach, listAt, marksAt, paramsAt, nameThen, headingOf}
-use Rattle.story.specs.Flows.{names, namesThen, counted, pieceAt, titled, stitch, flow, flows, part, titledAt, titledIn, piecesAt, piecesN, piecesIn, stitchIn, stitchesFrom, flowIn, flowsIn}
+use Rattle.story.specs.Flows.{names, namesThen, counted, pieceAt, titled, stitch, flow, flows, part, titledAt, titledIn, piecesAt, piecesN, piecesIn, stitchIn, titleEnd, flowIn, flowsIn}
 use Rattle.story.specs.File.{marked, startAt, openedOf, sectionsRead, readEnded, readAt, readOf, storyIn}
 use Rattle.story.specs.Whole.{Whole}
 use Rattle.story.specs.Story.{flowItems, storyItems}
@@ -55,7 +55,7 @@ unfolding file names-bytes root-bytes flow-bytes stitch-bytes trailer-bytes read
 told = refl
 
 placed : map (λ (i : Item). i .place) (storyItems (storyIn sections file)) ≡ 4 ∷ 9 ∷ 29 ∷ 46 ∷ []
-unfolding file names-bytes root-bytes flow-bytes stitch-bytes trailer-bytes storyIn nodes part repeat repeatN frontAt headOf nameOf listOf kindOf nodeKind exprKind bodyOf exact ending whole recordOf andThen shift ends met itemsIn itemsAs itemOf itemAs sortOf flowsIn piecesIn piecesN piecesAt flowIn stitchIn stitchesFrom titledIn titledAt headingOf nameThen paramsAt marksAt listAt countedReach namesReach reachAt storyItems flowItems
+unfolding file names-bytes root-bytes flow-bytes stitch-bytes trailer-bytes storyIn nodes part repeat repeatN frontAt headOf nameOf listOf kindOf nodeKind exprKind bodyOf exact ending whole recordOf andThen shift ends met itemsIn itemsAs itemOf itemAs sortOf flowsIn piecesIn piecesN piecesAt flowIn stitchIn titleEnd titledIn titledAt headingOf nameThen paramsAt marksAt listAt countedReach namesReach reachAt storyItems flowItems
 placed = refl
 
 example : Example

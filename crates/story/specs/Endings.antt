@@ -5,17 +5,17 @@ use Rattle.records.specs.Trace.{Ending, well, refused, ends}
 use Rattle.records.specs.Grammar.{nodes}
 use Rattle.story.specs.declared.Ended.{Ended}
 use Rattle.story.specs.declared.Ended.the-variants as ended
-use Rattle.story.specs.declared.Reach.{Reach}
-use Rattle.story.specs.declared.Reach.the-variants as reach
+use Rattle.fields.specs.declared.Reach.{Reach}
+use Rattle.fields.specs.declared.Reach.the-variants as reach
 use Rattle.story.specs.declared.HeadingRead.{HeadingRead}
 use Rattle.story.specs.declared.HeadingRead.the-variants as heading
 use Rattle.story.specs.Headings.{headingOf}
 use Rattle.story.specs.Flows.{part}
 
 -- the ending as the pass answers it
-unfoldable pub endOf : Ending → Ended
-endOf well = ended.Well
-endOf (refused r) = ended.Refused r
+unfoldable pub endedOf : Ending → Ended
+endedOf well = ended.Well
+endedOf (refused r) = ended.Refused r
 
 -- to the offset, where reading ended well
 unfoldable pub reachOf : Ending → ℕ → Reach

@@ -5,9 +5,7 @@ use lib.ListN.{length, getD, take, drop}
 use lib.Dec.{eqb}
 use Rattle.fields.specs.declared.Refusal.the-variants.{Short}
 use Rattle.fields.specs.declared.Role.the-variants.{Node}
-use Rattle.fields.specs.declared.Span.{Span}
-use Rattle.fields.specs.declared.Span.the-variants as span
-use Rattle.fields.specs.Bytes.{listOf}
+use Rattle.fields.specs.Bytes.{Span, listOf}
 use Rattle.records.specs.Trace.{refuse, andThen, shift}
 use Rattle.records.specs.Grammar.{Reading, repeat, named, flagged, listed, ending, recordOf}
 use Rattle.story.specs.declared.HeadingRead.{HeadingRead}
@@ -34,8 +32,8 @@ counted k (x ∷ s) = shift 1 (namesThen x k s)
 
 -- 32-bit length and a piece by g, then what follows it by k
 unfoldable pub pieceAt : Span → Reading → Reading → Reading
-pieceAt (span.Bytes n) g k s = andThen (shift 4 (g (take n (drop 4 s)))) (shift (4 + n) (k (drop (4 + n) s)))
-pieceAt span.Cut g k s = refuse Short
+pieceAt (Span.Bytes n) g k s = andThen (shift 4 (g (take n (drop 4 s)))) (shift (4 + n) (k (drop (4 + n) s)))
+pieceAt (Span.Refused r) g k s = refuse r
 
 -- the same, by the length that the bytes have
 abbrev pub piece : Reading → Reading → Reading
@@ -97,8 +95,8 @@ titledIn at s = titledAt (headingOf s) at s
 
 -- the pieces to the end, at most n of them, each by f from its first byte's place and its bytes after the length
 unfoldable pub piecesAt : {A : Type 0} → Span → (ℕ → List ℕ → A) → (ℕ → List ℕ → List A) → ℕ → List ℕ → List A
-piecesAt (span.Bytes n) f k at s = f at (take n (drop 4 s)) ∷ k (at + (4 + n)) (drop (4 + n) s)
-piecesAt span.Cut f k at s = []
+piecesAt (Span.Bytes n) f k at s = f at (take n (drop 4 s)) ∷ k (at + (4 + n)) (drop (4 + n) s)
+piecesAt (Span.Refused x) f k at s = []
 
 -- at most n pieces
 unfoldable pub piecesN : {A : Type 0} → ℕ → (ℕ → List ℕ → A) → ℕ → List ℕ → List A
@@ -113,16 +111,16 @@ piecesIn f at s = piecesN (length s) f at s
 unfoldable pub stitchIn : ℕ → List ℕ → Stitch
 stitchIn at s = titledIn (at + 4) s
 
--- where the stitches of a flow begin, from its name's count byte on
-unfoldable pub stitchesFrom : HeadingRead → ℕ
-stitchesFrom (heading.At h) = h .end
-stitchesFrom (heading.Refused r) = 0
+-- the place after the nodes of a flow or a stitch, from its name's count byte on: there the stitches of a flow begin
+unfoldable pub titleEnd : HeadingRead → ℕ
+titleEnd (heading.At h) = h .end
+titleEnd (heading.Refused r) = 0
 
 -- a flow at the place, from its bytes after the length
 unfoldable pub flowIn : ℕ → List ℕ → Flow
 flowIn at s =
     let own = titledIn (at + 5) (drop 1 s) in
-    let rest = stitchesFrom (headingOf (drop 1 s)) in
+    let rest = titleEnd (headingOf (drop 1 s)) in
     record {
       at = at;
       function = eqb (getD s 0 0) 1;

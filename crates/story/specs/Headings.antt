@@ -4,20 +4,16 @@ use mathlib.Core.List.{List}
 use lib.ListN.{length, getD, drop}
 use lib.Dec.{ltb}
 use Rattle.fields.specs.declared.Refusal.the-variants.{Short}
-use Rattle.fields.specs.declared.NameRead.{NameRead}
-use Rattle.fields.specs.declared.NameRead.the-variants as name
-use Rattle.fields.specs.declared.Span.{Span}
-use Rattle.fields.specs.declared.Span.the-variants as span
-use Rattle.fields.specs.Bytes.{pick, listOf, nameOf}
-use Rattle.story.specs.declared.Reach.{Reach}
-use Rattle.story.specs.declared.Reach.the-variants as reach
+use Rattle.fields.specs.Bytes.{Span, pick, listOf, nameOf}
+use Rattle.fields.specs.declared.Reach.{Reach}
+use Rattle.fields.specs.declared.Reach.the-variants as reach
 use Rattle.story.specs.declared.HeadingRead.{HeadingRead}
 use Rattle.story.specs.declared.HeadingRead.the-variants as heading
 
 -- past the name at the offset, then on by f
-unfoldable pub reachAt : NameRead → (ℕ → Reach) → ℕ → Reach
-reachAt (name.Bytes k) f at = f (at + (1 + k))
-reachAt (name.Refused r) f at = reach.Refused r
+unfoldable pub reachAt : Span → (ℕ → Reach) → ℕ → Reach
+reachAt (Span.Bytes k) f at = f (at + (1 + k))
+reachAt (Span.Refused r) f at = reach.Refused r
 
 -- how far so many names reach from the offset on
 unfoldable pub namesReach : List ℕ → ℕ → ℕ → Reach
@@ -30,8 +26,8 @@ countedReach s at = pick (ltb at (length s)) (namesReach s (getD s at 0) (at + 1
 
 -- the heading, whose list begins at the offset and has this length
 unfoldable pub listAt : ℕ → ℕ → ℕ → Span → HeadingRead
-listAt params marks list (span.Bytes n) = heading.At (record { params = params; marks = marks; nodes = list + 4; end = list + 4 + n })
-listAt params marks list span.Cut = heading.Refused Short
+listAt params marks list (Span.Bytes n) = heading.At (record { params = params; marks = marks; nodes = list + 4; end = list + 4 + n })
+listAt params marks list (Span.Refused r) = heading.Refused r
 
 -- the heading, whose divert parameters begin at the offset and reach so far
 unfoldable pub marksAt : ℕ → ℕ → Reach → List ℕ → HeadingRead
@@ -44,9 +40,9 @@ paramsAt params (reach.To marks) s = marksAt params marks (countedReach s marks)
 paramsAt params (reach.Refused r) s = heading.Refused r
 
 -- the heading, with this name at the front
-unfoldable pub nameThen : NameRead → List ℕ → HeadingRead
-nameThen (name.Bytes k) s = paramsAt (1 + k) (countedReach s (1 + k)) s
-nameThen (name.Refused r) s = heading.Refused r
+unfoldable pub nameThen : Span → List ℕ → HeadingRead
+nameThen (Span.Bytes k) s = paramsAt (1 + k) (countedReach s (1 + k)) s
+nameThen (Span.Refused r) s = heading.Refused r
 
 -- THE HEADING of a flow or a stitch, from its name's count byte on
 unfoldable pub headingOf : List ℕ → HeadingRead

@@ -6,10 +6,8 @@ ghost use Rattle.fields.specs.Bytes.{listOf};
 ghost use Rattle.story.specs.Headings.{namesReach, countedReach, listAt, marksAt, paramsAt, headingOf};
 use crate::Heading;
 use crate::HeadingRead;
-use crate::Reach;
-use fields::NameRead;
+use fields::Reach;
 use fields::Refusal;
-use fields::Span;
 use fields::read_list;
 use fields::read_name;
 
@@ -21,15 +19,11 @@ fn names_reach(s: &[u8], many: u8, at: usize) -> Reach
     let mut left = many;
     let mut e = at;
     while 0 < left {
-        let answer = read_name(&s[e..]);
-        match answer {
-            NameRead::Refused(r) => {
-                return Reach::Refused(r);
-            }
-            NameRead::Bytes(k) => {
-                e = e + (1 + k);
-            }
-        }
+        let reach = read_name(&s[e..]);
+        let Reach::To(to) = reach else {
+            return reach;
+        };
+        e = e + to;
         left = left - 1;
     }
     Reach::To(e)
@@ -50,24 +44,24 @@ fn list_heading(s: &[u8], params: usize, marks: usize, list: usize) -> HeadingRe
     requires { ⌜ list ≤ length (now s) ⌝ }
     ensures { λ r. ⌜ r ≡ listAt params marks list (listOf (drop list (now (s .entry)))) ⌝ }
 {
-    let Span::Bytes(n) = read_list(&s[list..]) else {
-        return HeadingRead::Refused(Refusal::Short);
-    };
-    let nodes = list + 4;
-    HeadingRead::At(Heading {
-        params,
-        marks,
-        nodes,
-        end: nodes + n,
-    })
+    let reach = read_list(&s[list..]);
+    match reach {
+        Reach::Refused(r) => HeadingRead::Refused(r),
+        Reach::To(e) => HeadingRead::At(Heading {
+            params,
+            marks,
+            nodes: list + 4,
+            end: list + e,
+        }),
+    }
 }
 
 // The heading, whose parameters begin at the first offset and whose divert parameters at the second.
 fn marks_heading(s: &[u8], params: usize, marks: usize) -> HeadingRead
     ensures { λ r. ⌜ r ≡ marksAt params marks (countedReach (now (s .entry)) marks) (now (s .entry)) ⌝ }
 {
-    let answer = counted_reach(s, marks);
-    match answer {
+    let reach = counted_reach(s, marks);
+    match reach {
         Reach::Refused(r) => HeadingRead::Refused(r),
         Reach::To(list) => list_heading(s, params, marks, list),
     }
@@ -77,8 +71,8 @@ fn marks_heading(s: &[u8], params: usize, marks: usize) -> HeadingRead
 fn params_heading(s: &[u8], params: usize) -> HeadingRead
     ensures { λ r. ⌜ r ≡ paramsAt params (countedReach (now (s .entry)) params) (now (s .entry)) ⌝ }
 {
-    let answer = counted_reach(s, params);
-    match answer {
+    let reach = counted_reach(s, params);
+    match reach {
         Reach::Refused(r) => HeadingRead::Refused(r),
         Reach::To(marks) => marks_heading(s, params, marks),
     }
@@ -88,9 +82,9 @@ fn params_heading(s: &[u8], params: usize) -> HeadingRead
 pub fn read_heading(s: &[u8]) -> HeadingRead
     ensures { λ r. ⌜ r ≡ headingOf (now (s .entry)) ⌝ }
 {
-    let answer = read_name(s);
-    match answer {
-        NameRead::Refused(r) => HeadingRead::Refused(r),
-        NameRead::Bytes(k) => params_heading(s, 1 + k),
+    let reach = read_name(s);
+    match reach {
+        Reach::Refused(r) => HeadingRead::Refused(r),
+        Reach::To(params) => params_heading(s, params),
     }
 }

@@ -34,12 +34,6 @@ pub enum Ended {
     Refused(Refusal),
 }
 
-// How far something reaches, or the refusal.
-pub enum Reach {
-    To(usize),
-    Refused(Refusal),
-}
-
 // Where the parts of a flow or a stitch begin, from its name's count byte on: the two counts of parameters, its nodes, and what follows them.
 pub struct Heading {
     pub params: usize,

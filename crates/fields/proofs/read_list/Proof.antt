@@ -1,13 +1,15 @@
 -- `read_list`: the length and the records that it announces fit, or they do not. Assumes nothing.
-use mathlib.Core.Path.{sym}
+use mathlib.Core.Path.{sym, ap}
 use native.Mathlib.Omega.{arith}
+use Rattle.fields.specs.Bytes.{spanReach}
 use Rattle.fields.proofs.Laws.{list-short, list-whole}
 use borrow.Author.Needs.{needs}
 use Rattle.fields.proofs.read_list.Statement.{statement}
 use Rattle.fields.proofs.read_list.Tie as tie
 
 returns : tie.Need-returns
-returns c = sym (list-short (c .before .before .args .s .now) (omega (arith, c .if1 .taken)))
+unfolding spanReach
+returns c = sym (ap (spanReach 4) (list-short (c .before .before .args .s .now) (omega (arith, c .if1 .taken))))
 
 shared-slice-read-word : tie.Need-shared-slice-read-word
 shared-slice-read-word c = search needs
@@ -28,13 +30,18 @@ sub-if2 : tie.Need-sub-if2
 sub-if2 c = search needs
 
 returns-2 : tie.Need-returns-2
-returns-2 c = sym (list-short (c .before .before .before .before .before .before .before .before .args .s .now) (omega (arith, c .before .word .ensures, c .if2 .taken)))
+unfolding spanReach
+returns-2 c = sym (ap (spanReach 4) (list-short (c .before .before .before .before .before .before .before .before .args .s .now) (omega (arith, c .before .word .ensures, c .if2 .taken))))
+
+add-t3 : tie.Need-add-t3
+add-t3 c = search needs
 
 returns-3 : tie.Need-returns-3
+unfolding spanReach
 returns-3 c =
     let at-if1 = c .before .before .before .before .before .before in
     let start = at-if1 .before .before in
-    rw (c .before .word .ensures) (sym (list-whole (start .args .s .now) (omega (arith, c .before .word .ensures, at-if1 .if1 .left, c .if2 .left))))
+    rw (c .before .word .ensures) (sym (ap (spanReach 4) (list-whole (start .args .s .now) (omega (arith, c .before .word .ensures, at-if1 .if1 .left, c .if2 .left)))))
 
 pub read-list-spec : {M : Type 1} → statement M
 read-list-spec =
@@ -48,4 +55,5 @@ read-list-spec =
     word-requires
     sub-if2
     returns-2
+    add-t3
     returns-3)

@@ -1,67 +1,30 @@
 -- `list_inside`: the list lies within the bytes. Assumes nothing.
 use native.Mathlib.Omega.{arith}
-use Rattle.fields.proofs.Laws.{list-fits}
-use Rattle.items.proofs.Parts.{inside-cut, inside-whole}
+use Prim.Native.Nat.{_≤_}
+use lib.ListN.{length}
+use Rattle.fields.proofs.Laws.{list-within}
+use Rattle.items.proofs.Parts.{inside-none, inside-whole}
 use borrow.Author.Needs.{needs}
 use Rattle.items.proofs.items.list_inside.Statement.{statement}
 use Rattle.items.proofs.items.list_inside.Tie as tie
 
-read-list-requires : tie.Need-read-list-requires
-read-list-requires c κs = search needs
-
-enum-known-l : tie.Need-enum-known-l
-enum-known-l c = search needs
-
-enum-told : tie.Need-enum-told
-enum-told c = search needs
-
-sub-result : tie.Need-sub-result
-sub-result c = search needs
-
-part-result-start : tie.Need-part-result-start
-part-result-start c = search needs
-
-part-result-end : tie.Need-part-result-end
-part-result-end c = search needs
+fits : (c : tie.After-known-told) → (4 ≤ c .before .reach .given .0 .0) × (c .before .reach .given .0 .0 ≤ length (c .before .before .before .before .before .args .s .now))
+fits c = list-within (c .before .before .before .before .before .args .s .now) (c .before .reach .given .0 .0) (c .before .before .before .read-list .ensures) (c .before .reach .given .1)
 
 returns : tie.Need-returns
-returns c = inside-cut (c .before .before .before .before .before .args .s .now) (c .before .before .before .read-list .ensures) (c .before .enum-told .given .1)
-
-add-e : tie.Need-add-e
-add-e c =
-    let start = c .before .before .before .before .before in
-    omega (arith, list-fits (start .args .s .now) (c .before .l .given .0 .0) (c .before .before .before .read-list .ensures) (c .before .l .given .1))
+returns c = let k = c .before .enum-told .given in inside-none (c .before .before .before .before .before .args .s .now) (c .before .before .before .read-list .ensures) (k .0 .0) (k .1)
 
 sub-result-2 : tie.Need-sub-result-2
-sub-result-2 c = search needs
+sub-result-2 c = fits c .0
 
 part-result-start-2 : tie.Need-part-result-start-2
-part-result-start-2 c = search needs
+part-result-start-2 c = omega (arith, fits c)
 
 part-result-end-2 : tie.Need-part-result-end-2
-part-result-end-2 c =
-    let start = c .before .before .before .before .before in
-    omega (arith, list-fits (start .args .s .now) (c .before .l .given .0 .0) (c .before .before .before .read-list .ensures) (c .before .l .given .1))
+part-result-end-2 c = omega (arith, fits c)
 
 returns-2 : tie.Need-returns-2
-returns-2 c =
-    let at-read-list = c .before .before .before .before in
-    let start = at-read-list .before .before in
-    inside-whole (start .args .s .now) (at-read-list .read-list .ensures) (c .before .before .l .given .1)
+returns-2 c = let k = c .before .before .reach .given in inside-whole (c .before .before .before .before .before .before .args .s .now) (c .before .before .before .before .read-list .ensures) (k .0 .0) (k .1)
 
 pub list-inside-spec : {M : Type 1} → statement M
-list-inside-spec =
-    tie.close
-    (tie.spec
-    read-list-requires
-    enum-known-l
-    enum-told
-    sub-result
-    part-result-start
-    part-result-end
-    returns
-    add-e
-    sub-result-2
-    part-result-start-2
-    part-result-end-2
-    returns-2)
+list-inside-spec = tie.close (tie.spec (λ c κs. search needs) (λ c. search needs) (λ c. search needs) (λ c. search needs) (λ c. search needs) (λ c. search needs) returns sub-result-2 part-result-start-2 part-result-end-2 returns-2)

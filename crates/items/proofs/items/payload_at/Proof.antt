@@ -1,77 +1,36 @@
 -- `payload_at`: the payload lies within what follows the place. Assumes nothing.
 use native.Mathlib.Omega.{arith}
-use Rattle.fields.proofs.Laws.{head-fits}
-use Rattle.items.proofs.Parts.{payload-cut, payload-whole}
+use Prim.Native.Nat.{_≤_}
+use lib.ListN.{length}
+use Rattle.fields.proofs.Laws.{head-within}
+use Rattle.items.proofs.Parts.{payload-none, payload-whole}
 use borrow.Author.Needs.{needs}
 use Rattle.items.proofs.items.payload_at.Statement.{statement}
 use Rattle.items.proofs.items.payload_at.Tie as tie
 
-tail-requires : tie.Need-tail-requires
-tail-requires c κs = search needs
-
-read-head-requires : tie.Need-read-head-requires
-read-head-requires c κs = search needs
-
-enum-known-h : tie.Need-enum-known-h
-enum-known-h c = search needs
-
-enum-told : tie.Need-enum-told
-enum-told c = search needs
-
-sub-result : tie.Need-sub-result
-sub-result c = search needs
-
-part-result-start : tie.Need-part-result-start
-part-result-start c = search needs
-
-part-result-end : tie.Need-part-result-end
-part-result-end c = search needs
+fits : (c : tie.After-known-told) → (5 ≤ c .before .head .given .0 .1 .0) × (c .before .head .given .0 .1 .0 ≤ length (c .before .before .before .before .tail .result .now))
+fits c = let k = c .before .head .given in head-within (c .before .before .before .before .tail .result .now) (k .0 .0) (k .0 .1 .0) (c .before .before .before .read-head .ensures) (k .1)
 
 returns : tie.Need-returns
 returns c =
-    let at-tail = c .before .before .before .before in
-    let start = at-tail .before .before in
-    payload-cut (start .args .file .now) (start .args .place) (at-tail .tail .ensures) (c .before .before .before .read-head .ensures) (c .before .enum-told .given .1)
-
-add-e : tie.Need-add-e
-add-e c =
-    let at-tail = c .before .before .before .before in
-    omega (arith, head-fits (at-tail .tail .result .now) (c .before .h .given .0 .0) (c .before .h .given .0 .1 .0) (c .before .before .before .read-head .ensures) (c .before .h .given .1))
+    let a = c .before .before .before .before .before .before .args in
+    let k = c .before .enum-told .given in
+    payload-none (a .file .now) (a .place) (c .before .before .before .before .tail .ensures) (c .before .before .before .read-head .ensures) (k .0 .0) (k .1)
 
 sub-result-2 : tie.Need-sub-result-2
-sub-result-2 c = search needs
+sub-result-2 c = fits c .0
 
 part-result-start-2 : tie.Need-part-result-start-2
-part-result-start-2 c = search needs
+part-result-start-2 c = omega (arith, fits c)
 
 part-result-end-2 : tie.Need-part-result-end-2
-part-result-end-2 c =
-    let at-tail = c .before .before .before .before in
-    omega (arith, head-fits (at-tail .tail .result .now) (c .before .h .given .0 .0) (c .before .h .given .0 .1 .0) (c .before .before .before .read-head .ensures) (c .before .h .given .1))
+part-result-end-2 c = omega (arith, fits c)
 
 returns-2 : tie.Need-returns-2
 returns-2 c =
-    let at-read-head = c .before .before .before .before in
-    let at-tail = at-read-head .before in
-    let start = at-tail .before .before in
-    let tail = at-tail .tail in
-    let read-head = at-read-head .read-head in
-    payload-whole (start .args .file .now) (start .args .place) (tail .ensures) (read-head .ensures) (c .before .before .h .given .1)
+    let a = c .before .before .before .before .before .before .before .args in
+    let k = c .before .before .head .given in
+    payload-whole (a .file .now) (a .place) (c .before .before .before .before .before .tail .ensures) (c .before .before .before .before .read-head .ensures) (k .0 .0) (k .0 .1 .0) (k .1)
 
 pub payload-at-spec : {M : Type 1} → statement M
-payload-at-spec =
-    tie.close
-    (tie.spec
-    tail-requires
-    read-head-requires
-    enum-known-h
-    enum-told
-    sub-result
-    part-result-start
-    part-result-end
-    returns
-    add-e
-    sub-result-2
-    part-result-start-2
-    part-result-end-2
-    returns-2)
+payload-at-spec = tie.close (tie.spec (λ c κs. search needs) (λ c κs. search needs) (λ c. search needs) (λ c. search needs) (λ c. search needs) (λ c. search needs) (λ c. search needs) returns sub-result-2 part-result-start-2 part-result-end-2 returns-2)

@@ -34,6 +34,9 @@ label-bit-requires c κs = search needs
 cast-out : tie.Need-cast-out
 cast-out c = search needs
 
+cast-out-2 : tie.Need-cast-out-2
+cast-out-2 c = search needs
+
 mul-out : tie.Need-mul-out
 mul-out c = omega (arith, small c)
 
@@ -78,6 +81,7 @@ note-spec =
     branch-bit-requires
     label-bit-requires
     cast-out
+    cast-out-2
     mul-out
     add-out
     mul-out-2

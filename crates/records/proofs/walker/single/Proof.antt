@@ -1,8 +1,8 @@
 -- `single`: the name, then nothing. Assumes nothing.
-use Prim.Native.Nat.{_+_, _≤_}
+use Prim.Native.Nat.{_≤_}
 use native.Mathlib.Omega.{arith}
 use lib.ListN.{length}
-use Rattle.fields.proofs.Laws.{name-fits}
+use Rattle.fields.proofs.Laws.{name-within}
 use Rattle.records.specs.Grammar.{ending}
 use Rattle.records.specs.Work.{st, keeping}
 use Rattle.records.proofs.Walking.{named-refused, named-on, told-end}
@@ -10,22 +10,19 @@ use borrow.Author.Needs.{needs}
 use Rattle.records.proofs.walker.single.Statement.{statement}
 use Rattle.records.proofs.walker.single.Tie as tie
 
-fits : (c : tie.After-known-told2) → 1 + c .before .answer2 .given .0 .0 ≤ length (c .before .before .before .before .before .before .args .s .now)
+fits : (c : tie.After-known-told2) → (1 ≤ c .before .reach2 .given .0 .0) × (c .before .reach2 .given .0 .0 ≤ length (c .before .before .before .before .before .before .args .s .now))
 fits c =
     let start = c .before .before .before .before .before .before in
-    name-fits (start .args .s .now) (c .before .answer2 .given .0 .0) (c .before .before .before .read-name .ensures) (c .before .answer2 .given .1)
+    name-within (start .args .s .now) (c .before .reach2 .given .0 .0) (c .before .before .before .read-name .ensures) (c .before .reach2 .given .1)
 
 read-name-requires : tie.Need-read-name-requires
 read-name-requires c κs = search needs
 
-enum-known-answer : tie.Need-enum-known-answer
-enum-known-answer c = search needs
+enum-known-reach : tie.Need-enum-known-reach
+enum-known-reach c = search needs
 
-enum-known-answer-2 : tie.Need-enum-known-answer-2
-enum-known-answer-2 c = search needs
-
-add-e : tie.Need-add-e
-add-e c = omega (arith, fits c)
+enum-known-reach-2 : tie.Need-enum-known-reach-2
+enum-known-reach-2 c = search needs
 
 sub-at-end : tie.Need-sub-at-end
 sub-at-end c = omega (arith, fits c)
@@ -43,14 +40,14 @@ returns : tie.Need-returns
 returns c =
     let start = c .before .before .before .before .before .before in
     let a = start .args in
-    named-refused keeping (a .base) (st (a .out .now) (a .n)) ending (a .s .now) (c .before .answer .given .0 .0) (c .before .before .before .read-name .ensures) (c .before .answer .given .1)
+    named-refused keeping (a .base) (st (a .out .now) (a .n)) ending (a .s .now) (c .before .reach .given .0 .0) (c .before .before .before .read-name .ensures) (c .before .reach .given .1)
 
 returns-2 : tie.Need-returns-2
 returns-2 c =
     let at-read-name = c .before .before .before .before .before in
     let start = at-read-name .before .before .before in
     let a = start .args in
-    rw (named-on keeping (a .base) (st (a .out .now) (a .n)) ending (a .s .now) (c .before .before .before .answer2 .given .0 .0) (at-read-name .read-name .ensures) (c .before .before .before .answer2 .given .1))
+    rw (named-on keeping (a .base) (st (a .out .now) (a .n)) ending (a .s .now) (c .before .before .before .reach2 .given .0 .0) (at-read-name .read-name .ensures) (c .before .before .before .reach2 .given .1))
     (told-end keeping _ _ _ (c .at-end .ensures))
 
 pub single-spec : {M : Type 1} → statement M
@@ -58,9 +55,8 @@ single-spec =
     tie.close
     (tie.spec
     read-name-requires
-    enum-known-answer
-    enum-known-answer-2
-    add-e
+    enum-known-reach
+    enum-known-reach-2
     sub-at-end
     part-at-end-start
     part-at-end-end

@@ -3,16 +3,11 @@ use mathlib.Core.Path.{_≡_, refl, _∙_}
 use Prim.Native.Nat.{_+_, _≤_}
 use native.Mathlib.Omega.{arith}
 use lib.ListN.{length}
-use denote.Enum.Declared.{tagOf}
-use Rattle.fields.proofs.Laws.{list-fits}
+use Rattle.fields.proofs.Laws.{list-within}
 use Rattle.records.specs.Grammar.{repeat}
-use Rattle.records.proofs.Readings.{repeat-none, repeat-step}
 use Rattle.story.specs.Flows.{piece, flow, flows}
 use Rattle.records.specs.Work.{run, st, keeping}
-use Rattle.records.proofs.Walk.{the-type}
-use Rattle.records.proofs.Walking.{not-done, told-done}
-use Rattle.story.proofs.Pieces.{piece-local}
-use Rattle.story.proofs.PieceWalks.{piece-cut, piece-on, piece-else}
+use Rattle.story.proofs.PieceWalks.{pieces-refused, pieces-on, pieces-else, pieces-none}
 use borrow.Author.Needs.{needs}
 use Rattle.story.proofs.flows.read_flows.Statement.{statement}
 use Rattle.story.proofs.flows.read_flows.Tie as tie
@@ -25,38 +20,49 @@ Inv-loop s base out₀ n t₀ at₀ count₀ out t at count =
 abbrev μ-loop : tie.MeasureT-loop
 μ-loop s base out₀ n t₀ at₀ count₀ out t at count = length t
 
-fits : (c : tie.After-known-told Inv-loop μ-loop) → 4 + c .before .len .given .0 .0 ≤ length (c .before .before .before .before .before .loop .t .now)
-fits c = list-fits (c .before .before .before .before .before .loop .t .now) (c .before .len .given .0 .0) (c .before .before .before .read-list .ensures) (c .before .len .given .1)
-
 loop-holds : tie.Need-loop-holds Inv-loop μ-loop
+unfolding flows
 loop-holds c = (omega arith, refl)
+
+fits : (c : tie.After-known-told2 Inv-loop μ-loop) → (4 ≤ c .before .reach2 .given .0 .0) × (c .before .reach2 .given .0 .0 ≤ length (c .before .before .before .before .before .loop .t .now))
+fits c = list-within (c .before .before .before .before .before .loop .t .now) (c .before .reach2 .given .0 .0) (c .before .before .before .read-list .ensures) (c .before .reach2 .given .1)
 
 returns : tie.Need-returns Inv-loop μ-loop
 unfolding flows
-returns c = rw (c .before .before .before .before .loop .inv .1, repeat-step (piece flow) (piece-local flow) (c .before .before .before .before .loop .t .now) (c .before .before .before .loop-test .taken)) (piece-cut keeping (c .before .before .before .before .loop .at) (st (c .before .before .before .before .loop .out) (c .before .before .before .before .loop .count)) flow (repeat (piece flow)) (c .before .before .before .before .loop .t .now) (c .before .before .read-list .ensures) (c .enum-told .given .1))
+returns c =
+    let l = c .before .before .before .before .before .loop in
+    let k = c .before .reach .given in
+    rw (l .inv .1) (pieces-refused keeping (l .at) (st (l .out) (l .count)) flow (l .t .now) (c .before .before .before .before .loop-test .taken) (c .before .before .before .read-list .ensures) (k .0 .0) (k .1))
 
-add-e : tie.Need-add-e Inv-loop μ-loop
-add-e c = omega (arith, fits c)
+sub-piece : tie.Need-sub-read-flow Inv-loop μ-loop
+sub-piece c = fits c .0
 
-part-read-flow-end : tie.Need-part-read-flow-end Inv-loop μ-loop
-part-read-flow-end c = omega (arith, fits c)
+part-start : tie.Need-part-read-flow-start Inv-loop μ-loop
+part-start c = omega (arith, fits c)
 
-add-read-flow : tie.Need-add-read-flow Inv-loop μ-loop
-add-read-flow c = omega (arith, fits (c .before), c .before .before .before .before .before .before .loop .inv .0, c .before .before .before .before .before .before .before .before .before .pre)
+part-end : tie.Need-part-read-flow-end Inv-loop μ-loop
+part-end c = omega (arith, fits c)
 
-read-flow-requires : tie.Need-read-flow-requires Inv-loop μ-loop
-read-flow-requires c κs = omega (arith, fits (c .before .before), c .before .read-flow-arg .given .2, c .before .before .before .before .before .before .before .loop .inv .0, c .before .before .before .before .before .before .before .before .before .before .pre)
+add-4 : tie.Need-add-read-flow Inv-loop μ-loop
+add-4 c = omega (arith, fits (c .before), c .before .before .before .before .before .before .loop .inv .0, c .before .before .before .before .before .before .before .before .before .pre)
+
+piece-requires : tie.Need-read-flow-requires Inv-loop μ-loop
+piece-requires c κs = omega (arith, fits (c .before .before), c .before .read-flow-arg .given .2, c .before .before .before .before .before .before .before .loop .inv .0, c .before .before .before .before .before .before .before .before .before .before .pre)
 
 returns-2 : tie.Need-returns-2 Inv-loop μ-loop
 unfolding flows
-returns-2 c = rw (c .before .before .before .before .before .before .before .before .before .before .before .before .loop .inv .1, repeat-step (piece flow) (piece-local flow) (c .before .before .before .before .before .before .before .before .before .before .before .before .loop .t .now) (c .before .before .before .before .before .before .before .before .before .before .before .loop-test .taken))
-    (piece-else keeping (c .before .before .before .before .before .before .before .before .before .before .before .before .loop .at) (st (c .before .before .before .before .before .before .before .before .before .before .before .before .loop .out) (c .before .before .before .before .before .before .before .before .before .before .before .before .loop .count)) flow (repeat (piece flow)) (c .before .before .before .before .before .before .before .before .before .before .before .before .loop .t .now) (c .before .before .before .before .before .before .before .before .len .given .0 .0) (c .before .before .before .before .before .before .before .before .before .before .read-list .ensures) (c .before .before .before .before .before .before .before .before .len .given .1) (c .before .before .before .before .read-flow .ensures) (not-done (tagOf the-type) (λ m. refl) (c .before .before .before .before .read-flow .result) (c .before .match2 .keys2)))
+returns-2 c =
+    let l = c .before .before .before .before .before .before .before .before .before .before .before .before .loop in
+    let k = c .before .before .before .before .before .before .before .before .reach2 .given in
+    let inside = c .before .before .before .before .read-flow in
+    rw (l .inv .1)
+    (pieces-else keeping (l .at) (st (l .out) (l .count)) flow (l .t .now) (c .before .before .before .before .before .before .before .before .before .before .before .loop-test .taken) (c .before .before .before .before .before .before .before .before .before .before .read-list .ensures) (k .0 .0) (k .1) (inside .ensures) (c .enum-told .given .1))
 
 add-at : tie.Need-add-at Inv-loop μ-loop
 add-at c = omega (arith, fits (c .before .before .before .before .before .before .before .before), c .before .before .before .before .before .before .before .before .before .before .before .before .before .loop .inv .0, c .before .before .before .before .before .before .before .before .before .before .before .before .before .before .before .before .pre)
 
 sub-t : tie.Need-sub-t Inv-loop μ-loop
-sub-t c = omega (arith, fits (c .before .before .before .before .before .before .before .before))
+sub-t c = fits (c .before .before .before .before .before .before .before .before) .1
 
 part-t-start : tie.Need-part-t-start Inv-loop μ-loop
 part-t-start c = omega (arith, fits (c .before .before .before .before .before .before .before .before))
@@ -65,15 +71,20 @@ loop-less : tie.Need-loop-less Inv-loop μ-loop
 loop-less c = omega (arith, fits (c .before .before .before .before .before .before .before .before .before), c .t .given .2)
 
 loop-again : tie.Need-loop-again Inv-loop μ-loop
-loop-again c = (
-  omega (arith, fits (c .before .before .before .before .before .before .before .before .before), c .t .given .2, c .before .before .before .before .before .before .before .before .before .before .before .before .before .before .loop .inv .0, c .before .before .before .before .before .before .read-flow .kept),
-  c .before .before .before .before .before .before .before .before .before .before .before .before .before .before .loop .inv .1 ∙ rw (repeat-step (piece flow) (piece-local flow) (c .before .before .before .before .before .before .before .before .before .before .before .before .before .before .loop .t .now) (c .before .before .before .before .before .before .before .before .before .before .before .before .before .loop-test .taken))
-      (piece-on keeping (c .before .before .before .before .before .before .before .before .before .before .before .before .before .before .loop .at) (st (c .before .before .before .before .before .before .before .before .before .before .before .before .before .before .loop .out) (c .before .before .before .before .before .before .before .before .before .before .before .before .before .before .loop .count)) flow (repeat (piece flow)) (c .before .before .before .before .before .before .before .before .before .before .before .before .before .before .loop .t .now) (c .before .before .before .before .before .before .before .before .before .before .len .given .0 .0) (c .before .before .before .before .before .before .before .before .before .before .before .before .read-list .ensures) (c .before .before .before .before .before .before .before .before .before .before .len .given .1) (c .before .before .before .before .before .before .read-flow .ensures) (c .before .before .w .given .0 .0) (c .before .before .w .given .1)),
-)
+loop-again c =
+    let l = c .before .before .before .before .before .before .before .before .before .before .before .before .before .before .loop in
+    let k = c .before .before .before .before .before .before .before .before .before .before .reach2 .given in
+    let inside = c .before .before .before .before .before .before .read-flow in
+    let w = c .before .before .w .given in (
+      omega (arith, fits (c .before .before .before .before .before .before .before .before .before), c .t .given .2, l .inv .0, inside .kept),
+      l .inv .1 ∙ pieces-on keeping (l .at) (st (l .out) (l .count)) flow (l .t .now) (c .before .before .before .before .before .before .before .before .before .before .before .before .before .loop-test .taken) (c .before .before .before .before .before .before .before .before .before .before .before .before .read-list .ensures) (k .0 .0) (k .1) (inside .ensures) (w .0 .0) (w .1),
+    )
 
 returns-3 : tie.Need-returns-3 Inv-loop μ-loop
 unfolding flows
-returns-3 c = rw (c .before .loop .inv .1) (told-done keeping (c .before .loop .at) (st (c .before .loop .out) (c .before .loop .count)) (repeat (piece flow) (c .before .loop .t .now)) (repeat-none (piece flow) (c .before .loop .t .now) (c .loop-test .left)))
+returns-3 c =
+    let l = c .before .loop in
+    rw (l .inv .1) (pieces-none keeping (l .at) (st (l .out) (l .count)) flow (l .t .now) (c .loop-test .left))
 
 pub read-flows-spec : {M : Type 1} → statement M
-read-flows-spec = tie.close (tie.spec Inv-loop μ-loop loop-holds (λ c κs. search needs) (λ c. search needs) (λ c. search needs) (λ c. search needs) returns add-e (λ c. search needs) (λ c. search needs) part-read-flow-end add-read-flow read-flow-requires (λ c. search needs) (λ c. search needs) (λ c. search needs) returns-2 add-at sub-t part-t-start (λ c. search needs) loop-less loop-again (λ c. search needs) returns-3)
+read-flows-spec = tie.close (tie.spec Inv-loop μ-loop loop-holds (λ c κs. search needs) (λ c. search needs) (λ c. search needs) returns (λ c. search needs) sub-piece part-start part-end add-4 piece-requires (λ c. search needs) (λ c. search needs) (λ c. search needs) returns-2 add-at sub-t part-t-start (λ c. search needs) loop-less loop-again (λ c. search needs) returns-3)

@@ -4,17 +4,17 @@ use native.Mathlib.Omega.{arith}
 use Rattle.fields.specs.declared.Role.the-variants.{Visited}
 use Rattle.records.specs.Grammar.{recordOf, named, exact}
 use Rattle.records.specs.Work.{st, keeping}
-use Rattle.records.proofs.Walking.{moded-cut, moded-on, moded-no}
+use Rattle.records.proofs.Walking.{moded-short, moded-on, moded-no}
 use borrow.Author.Needs.{needs}
 use Rattle.records.proofs.walker.assign.Reads as walk-assign
-use Rattle.records.proofs.walker.+arms+assign+body+branches+call+choice+conditional+else_arm+exact+first+label+last+list+lists+options+record+set+switch+test.Lts-assign as lts
-use Rattle.records.proofs.walker.+arms+assign+body+branches+call+choice+conditional+else_arm+exact+first+label+last+list+lists+options+record+set+switch+test.Proof.Base.{walk-assign-at, walk-assign-uses}
+use Rattle.records.proofs.walker.+arms+assign+body+branch+branches+call+choice+conditional+else_arm+exact+first+front_list+label+last+list+lists+options+record+set+switch+test.Lts-assign as lts
+use Rattle.records.proofs.walker.+arms+assign+body+branch+branches+call+choice+conditional+else_arm+exact+first+front_list+label+last+list+lists+options+record+set+switch+test.Proof.Base.{walk-assign-at, walk-assign-uses}
 
 module _ (t : ℕ) where
   cut : lts.Need-returns (walk-assign-uses t) (walk-assign-at t) walk-assign.Post
   cut c =
       let a = c .before .before .before .args in
-      moded-cut keeping (a .base) (st (a .out .now) (a .n)) (named (exact 1 (recordOf (a .left) Visited))) (a .s .now) (omega (arith, c .if1 .taken))
+      moded-short keeping (a .base) (st (a .out .now) (a .n)) (named (exact 1 (recordOf (a .left) Visited))) (a .s .now) (omega (arith, c .if1 .taken))
 
   add-base : lts.Need-add-set (walk-assign-uses t) (walk-assign-at t) walk-assign.Post
   add-base c = omega (arith, c .before .before .before .if1 .left, c .before .before .before .before .before .before .pre .1)

@@ -8,8 +8,8 @@ use Rattle.records.specs.Grammar.{recordOf, named, options}
 use Rattle.records.proofs.Walking.{flagged-refused, flagged-off, flagged-on}
 use borrow.Author.Needs.{needs}
 use Rattle.records.proofs.walker.choice.Reads as walk-choice
-use Rattle.records.proofs.walker.+arms+assign+body+branches+call+choice+conditional+else_arm+exact+first+label+last+list+lists+options+record+set+switch+test.Lts-choice as lts
-use Rattle.records.proofs.walker.+arms+assign+body+branches+call+choice+conditional+else_arm+exact+first+label+last+list+lists+options+record+set+switch+test.Proof.Base.{walk-choice-at, walk-choice-uses}
+use Rattle.records.proofs.walker.+arms+assign+body+branch+branches+call+choice+conditional+else_arm+exact+first+front_list+label+last+list+lists+options+record+set+switch+test.Lts-choice as lts
+use Rattle.records.proofs.walker.+arms+assign+body+branch+branches+call+choice+conditional+else_arm+exact+first+front_list+label+last+list+lists+options+record+set+switch+test.Proof.Base.{walk-choice-at, walk-choice-uses}
 
 module _ (t : ℕ) where
   off : (c : lts.After-enum-told (walk-choice-uses t) (walk-choice-at t) walk-choice.Post) → 1 ≤ length (c .before .before .before .before .before .args .s .now)

@@ -5,8 +5,8 @@ use Rattle.records.specs.Work.{st, keeping}
 use Rattle.records.proofs.Walking.{record-none, record-deep, record-on}
 use borrow.Author.Needs.{needs}
 use Rattle.records.proofs.walker.record.Reads as walk-record
-use Rattle.records.proofs.walker.+arms+assign+body+branches+call+choice+conditional+else_arm+exact+first+label+last+list+lists+options+record+set+switch+test.Lts-record as lts
-use Rattle.records.proofs.walker.+arms+assign+body+branches+call+choice+conditional+else_arm+exact+first+label+last+list+lists+options+record+set+switch+test.Proof.Base.{walk-record-at, walk-record-uses}
+use Rattle.records.proofs.walker.+arms+assign+body+branch+branches+call+choice+conditional+else_arm+exact+first+front_list+label+last+list+lists+options+record+set+switch+test.Lts-record as lts
+use Rattle.records.proofs.walker.+arms+assign+body+branch+branches+call+choice+conditional+else_arm+exact+first+front_list+label+last+list+lists+options+record+set+switch+test.Proof.Base.{walk-record-at, walk-record-uses}
 
 module _ (t : ℕ) where
   unknown : lts.Need-returns (walk-record-uses t) (walk-record-at t) walk-record.Post

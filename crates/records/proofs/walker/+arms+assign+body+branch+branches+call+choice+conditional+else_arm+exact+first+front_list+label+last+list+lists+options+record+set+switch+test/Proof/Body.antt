@@ -4,8 +4,8 @@ use native.Mathlib.Omega.{arith}
 use Rattle.records.specs.Grammar.{bodyOf}
 use borrow.Author.Needs.{needs}
 use Rattle.records.proofs.walker.body.Reads as walk-body
-use Rattle.records.proofs.walker.+arms+assign+body+branches+call+choice+conditional+else_arm+exact+first+label+last+list+lists+options+record+set+switch+test.Lts-body as lts
-use Rattle.records.proofs.walker.+arms+assign+body+branches+call+choice+conditional+else_arm+exact+first+label+last+list+lists+options+record+set+switch+test.Proof.Base.{walk-body-at, walk-body-uses}
+use Rattle.records.proofs.walker.+arms+assign+body+branch+branches+call+choice+conditional+else_arm+exact+first+front_list+label+last+list+lists+options+record+set+switch+test.Lts-body as lts
+use Rattle.records.proofs.walker.+arms+assign+body+branch+branches+call+choice+conditional+else_arm+exact+first+front_list+label+last+list+lists+options+record+set+switch+test.Proof.Base.{walk-body-at, walk-body-uses}
 
 module _ (t : ℕ) where
   exact-requires : lts.Need-exact-requires (walk-body-uses t) (walk-body-at t) walk-body.Post

@@ -3,19 +3,16 @@ use Prim.Native.Nat.{ℕ, _+_, _≤_}
 use mathlib.Core.Path.{_≡_, refl, _∙_}
 use native.Mathlib.Omega.{arith}
 use lib.ListN.{length}
-use denote.Enum.Declared.{tagOf}
-use Rattle.records.proofs.Walk.{the-type}
-use Rattle.records.specs.Work.{run}
 use Rattle.records.specs.Grammar.{recordOf, repeat, front}
-use Rattle.records.specs.Work.{st, keeping}
-use Rattle.fields.proofs.Laws.{head-fits}
+use Rattle.records.specs.Work.{run, st, keeping}
+use Rattle.fields.proofs.Laws.{head-within}
 use Rattle.records.proofs.Readings.{repeat-none, repeat-step, front-local}
 use Rattle.records.proofs.Bare.{bare-on}
-use Rattle.records.proofs.Walking.{front-cut, front-else, front-on, not-done, told-done}
+use Rattle.records.proofs.Walking.{front-refused, front-else, front-on, told-done}
 use borrow.Author.Needs.{needs}
 use Rattle.records.proofs.walker.list.Reads as walk-list
-use Rattle.records.proofs.walker.+arms+assign+body+branches+call+choice+conditional+else_arm+exact+first+label+last+list+lists+options+record+set+switch+test.Lts-list as lts
-use Rattle.records.proofs.walker.+arms+assign+body+branches+call+choice+conditional+else_arm+exact+first+label+last+list+lists+options+record+set+switch+test.Proof.Base.{walk-list-at, walk-list-uses}
+use Rattle.records.proofs.walker.+arms+assign+body+branch+branches+call+choice+conditional+else_arm+exact+first+front_list+label+last+list+lists+options+record+set+switch+test.Lts-list as lts
+use Rattle.records.proofs.walker.+arms+assign+body+branch+branches+call+choice+conditional+else_arm+exact+first+front_list+label+last+list+lists+options+record+set+switch+test.Proof.Base.{walk-list-at, walk-list-uses}
 
 -- what is left stands at `at`, and the run of the whole is the run of what is left
 abbrev Inv : lts.InvT-loop
@@ -30,24 +27,21 @@ module _ (t : ℕ) where
   holds : lts.Need-loop-holds (walk-list-uses t) (walk-list-at t) walk-list.Post Inv μ
   holds c = (omega arith, refl)
 
-  fits : (c : lts.After-known-told (walk-list-uses t) (walk-list-at t) walk-list.Post Inv μ) → 5 + c .before .kind .given .0 .1 .0 ≤ length (c .before .before .before .before .before .loop .t .now)
-  fits c = head-fits (c .before .before .before .before .before .loop .t .now) (c .before .kind .given .0 .0) (c .before .kind .given .0 .1 .0) (c .before .before .before .read-head .ensures) (c .before .kind .given .1)
+  fits : (c : lts.After-known-told2 (walk-list-uses t) (walk-list-at t) walk-list.Post Inv μ) → (5 ≤ c .before .head2 .given .0 .1 .0) × (c .before .head2 .given .0 .1 .0 ≤ length (c .before .before .before .before .before .loop .t .now))
+  fits c = let k = c .before .head2 .given in head-within (c .before .before .before .before .before .loop .t .now) (k .0 .0) (k .0 .1 .0) (c .before .before .before .read-head .ensures) (k .1)
 
-  cut : lts.Need-returns (walk-list-uses t) (walk-list-at t) walk-list.Post Inv μ
-  cut c =
-      let a = c .before .before .before .before .before .before .before .args in
-      let l = c .before .before .before .before .loop in
-      rw (l .inv .1, repeat-step (front (recordOf (a .left) (a .role))) (front-local (recordOf (a .left) (a .role))) (l .t .now) (c .before .before .before .loop-test .taken))
-      (front-cut keeping (l .at) (st (l .out) (l .count)) (recordOf (a .left) (a .role)) (repeat (front (recordOf (a .left) (a .role)))) (l .t .now) (c .before .before .read-head .ensures) (c .enum-told .given .1))
-
-  add-e : lts.Need-add-e (walk-list-uses t) (walk-list-at t) walk-list.Post Inv μ
-  add-e c = omega (arith, fits c)
+  refused : lts.Need-returns (walk-list-uses t) (walk-list-at t) walk-list.Post Inv μ
+  refused c =
+      let a = c .before .before .before .before .before .before .before .before .args in
+      let l = c .before .before .before .before .before .loop in
+      let k = c .before .head .given in
+      rw (l .inv .1, repeat-step (front (recordOf (a .left) (a .role))) (front-local (recordOf (a .left) (a .role))) (l .t .now) (c .before .before .before .before .loop-test .taken)) (front-refused keeping (l .at) (st (l .out) (l .count)) (recordOf (a .left) (a .role)) (repeat (front (recordOf (a .left) (a .role)))) (l .t .now) (k .0 .0) (c .before .before .before .read-head .ensures) (k .1))
 
   bare-at : lts.Need-add-at (walk-list-uses t) (walk-list-at t) walk-list.Post Inv μ
   bare-at c = omega (arith, fits (c .before .before .before), c .before .before .before .before .before .before .before .before .loop .inv .0, c .before .before .before .before .before .before .before .before .before .before .before .pre .1)
 
   bare-sub : lts.Need-sub-t (walk-list-uses t) (walk-list-at t) walk-list.Post Inv μ
-  bare-sub c = fits (c .before .before .before)
+  bare-sub c = fits (c .before .before .before) .1
 
   bare-part : lts.Need-part-t-start (walk-list-uses t) (walk-list-at t) walk-list.Post Inv μ
   bare-part c = omega (arith, fits (c .before .before .before))
@@ -59,11 +53,18 @@ module _ (t : ℕ) where
   bare-again c =
       let a = c .before .before .before .before .before .before .before .before .before .before .before .before .args in
       let l = c .before .before .before .before .before .before .before .before .before .loop in
-      let k = c .before .before .before .before .before .kind .given in (
+      let k = c .before .before .before .before .before .head2 .given in
+      let bare = c .before .before .before .is-bare .ensures (c .before .before .if1 .taken) in (
         omega (arith, fits (c .before .before .before .before), c .t .given .2, l .inv .0),
         l .inv .1 ∙ rw (repeat-step (front (recordOf (a .left) (a .role))) (front-local (recordOf (a .left) (a .role))) (l .t .now) (c .before .before .before .before .before .before .before .before .loop-test .taken))
-            (bare-on (l .at) (l .out) (l .count) (c .before .wrapping-add-usize .ensures) (a .left) (a .role) (repeat (front (recordOf (a .left) (a .role)))) (l .t .now) (k .0 .0) (k .0 .1 .0) (c .before .before .before .is-bare .ensures (c .before .before .if1 .taken)) (c .before .before .before .before .before .before .before .read-head .ensures) (k .1)),
+            (bare-on (l .at) (l .out) (l .count) (c .before .wrapping-add-usize .ensures) (a .left) (a .role) (repeat (front (recordOf (a .left) (a .role)))) (l .t .now) (k .0 .0) (k .0 .1 .0) bare (c .before .before .before .before .before .before .before .read-head .ensures) (k .1)),
       )
+
+  sub-piece : lts.Need-sub-record (walk-list-uses t) (walk-list-at t) walk-list.Post Inv μ
+  sub-piece c = fits (c .before .before) .0
+
+  part-start : lts.Need-part-record-start (walk-list-uses t) (walk-list-at t) walk-list.Post Inv μ
+  part-start c = omega (arith, fits (c .before .before))
 
   part-end : lts.Need-part-record-end (walk-list-uses t) (walk-list-at t) walk-list.Post Inv μ
   part-end c = omega (arith, fits (c .before .before))
@@ -75,15 +76,16 @@ module _ (t : ℕ) where
   other c =
       let a = c .before .before .before .before .before .before .before .before .before .before .before .before .before .before .before .before .before .args in
       let l = c .before .before .before .before .before .before .before .before .before .before .before .before .before .before .loop in
-      let k = c .before .before .before .before .before .before .before .before .before .before .kind .given in
+      let k = c .before .before .before .before .before .before .before .before .before .before .head2 .given in
+      let piece = c .before .before .before .before .record in
       rw (l .inv .1, repeat-step (front (recordOf (a .left) (a .role))) (front-local (recordOf (a .left) (a .role))) (l .t .now) (c .before .before .before .before .before .before .before .before .before .before .before .before .before .loop-test .taken))
-      (front-else keeping (l .at) (st (l .out) (l .count)) (recordOf (a .left) (a .role)) (repeat (front (recordOf (a .left) (a .role)))) (l .t .now) (k .0 .0) (k .0 .1 .0) (c .before .before .before .before .before .before .before .before .before .before .before .before .read-head .ensures) (k .1) (c .before .before .before .before .record .ensures) (not-done (tagOf the-type) (λ m. refl) (c .before .before .before .before .record .result) (c .before .match2 .keys2)))
+      (front-else keeping (l .at) (st (l .out) (l .count)) (recordOf (a .left) (a .role)) (repeat (front (recordOf (a .left) (a .role)))) (l .t .now) (k .0 .0) (k .0 .1 .0) (c .before .before .before .before .before .before .before .before .before .before .before .before .read-head .ensures) (k .1) (piece .ensures) (c .enum-told .given .1))
 
   add-at : lts.Need-add-at-2 (walk-list-uses t) (walk-list-at t) walk-list.Post Inv μ
   add-at c = omega (arith, fits (c .before .before .before .before .before .before .before .before .before .before), c .before .before .before .before .before .before .before .before .before .before .before .before .before .before .before .loop .inv .0, c .before .before .before .before .before .before .before .before .before .before .before .before .before .before .before .before .before .before .pre .1)
 
   sub-t : lts.Need-sub-t-2 (walk-list-uses t) (walk-list-at t) walk-list.Post Inv μ
-  sub-t c = fits (c .before .before .before .before .before .before .before .before .before .before)
+  sub-t c = fits (c .before .before .before .before .before .before .before .before .before .before) .1
 
   part-t : lts.Need-part-t-start-2 (walk-list-uses t) (walk-list-at t) walk-list.Post Inv μ
   part-t c = omega (arith, fits (c .before .before .before .before .before .before .before .before .before .before))
@@ -95,10 +97,12 @@ module _ (t : ℕ) where
   again c =
       let a = c .before .before .before .before .before .before .before .before .before .before .before .before .before .before .before .before .before .before .before .args in
       let l = c .before .before .before .before .before .before .before .before .before .before .before .before .before .before .before .before .loop in
-      let k = c .before .before .before .before .before .before .before .before .before .before .before .before .kind .given in (
-        omega (arith, fits (c .before .before .before .before .before .before .before .before .before .before .before), c .t2 .given .2, l .inv .0, c .before .before .before .before .before .before .record .kept),
+      let k = c .before .before .before .before .before .before .before .before .before .before .before .before .head2 .given in
+      let piece = c .before .before .before .before .before .before .record in
+      let w = c .before .before .w .given in (
+        omega (arith, fits (c .before .before .before .before .before .before .before .before .before .before .before), c .t2 .given .2, l .inv .0, piece .kept),
         l .inv .1 ∙ rw (repeat-step (front (recordOf (a .left) (a .role))) (front-local (recordOf (a .left) (a .role))) (l .t .now) (c .before .before .before .before .before .before .before .before .before .before .before .before .before .before .before .loop-test .taken))
-            (front-on keeping (l .at) (st (l .out) (l .count)) (recordOf (a .left) (a .role)) (repeat (front (recordOf (a .left) (a .role)))) (l .t .now) (k .0 .0) (k .0 .1 .0) (c .before .before .w .given .0 .0) (c .before .before .before .before .before .before .before .before .before .before .before .before .before .before .read-head .ensures) (k .1) (c .before .before .before .before .before .before .record .ensures) (c .before .before .w .given .1)),
+            (front-on keeping (l .at) (st (l .out) (l .count)) (recordOf (a .left) (a .role)) (repeat (front (recordOf (a .left) (a .role)))) (l .t .now) (k .0 .0) (k .0 .1 .0) (w .0 .0) (c .before .before .before .before .before .before .before .before .before .before .before .before .before .before .read-head .ensures) (k .1) (piece .ensures) (w .1)),
       )
 
   finished : lts.Need-returns-3 (walk-list-uses t) (walk-list-at t) walk-list.Post Inv μ
@@ -108,4 +112,4 @@ module _ (t : ℕ) where
       rw (l .inv .1) (told-done keeping (l .at) (st (l .out) (l .count)) (repeat (front (recordOf (a .left) (a .role))) (l .t .now)) (repeat-none (front (recordOf (a .left) (a .role))) (l .t .now) (c .loop-test .left)))
 
   pub ok : {M : Type 1} → lts.Closed (walk-list-uses t) (walk-list-at t) walk-list.Post M
-  ok = lts.spec (walk-list-uses t) (walk-list-at t) walk-list.Post Inv μ holds (λ c κs. search needs) (λ c. search needs) (λ c. search needs) (λ c. search needs) cut add-e (λ c κs. search needs) (λ c κs. search needs) bare-at bare-sub bare-part (λ c. search needs) bare-less bare-again (λ c. search needs) (λ c. search needs) part-end piece-requires (λ c. search needs) (λ c. search needs) (λ c. search needs) other add-at sub-t part-t (λ c. search needs) less again (λ c. search needs) finished
+  ok = lts.spec (walk-list-uses t) (walk-list-at t) walk-list.Post Inv μ holds (λ c κs. search needs) (λ c. search needs) (λ c. search needs) refused (λ c. search needs) (λ c κs. search needs) (λ c κs. search needs) bare-at bare-sub bare-part (λ c. search needs) bare-less bare-again sub-piece part-start part-end piece-requires (λ c. search needs) (λ c. search needs) (λ c. search needs) other add-at sub-t part-t (λ c. search needs) less again (λ c. search needs) finished

@@ -6,68 +6,72 @@ use borrow.Fn.Kinds.{In}
 use borrow.Fn.PlainCycle.{Measures, is, falls, and}
 use Rattle.records.proofs.walker.arms.Reads as walk-arms
 use Rattle.records.proofs.walker.arms.Kinds as walk-arms-kinds
-use Rattle.records.proofs.walker.+arms+assign+body+branches+call+choice+conditional+else_arm+exact+first+label+last+list+lists+options+record+set+switch+test.Lts-arms as walk-arms-lts
+use Rattle.records.proofs.walker.+arms+assign+body+branch+branches+call+choice+conditional+else_arm+exact+first+front_list+label+last+list+lists+options+record+set+switch+test.Lts-arms as walk-arms-lts
 use Rattle.records.proofs.walker.assign.Reads as walk-assign
 use Rattle.records.proofs.walker.assign.Kinds as walk-assign-kinds
-use Rattle.records.proofs.walker.+arms+assign+body+branches+call+choice+conditional+else_arm+exact+first+label+last+list+lists+options+record+set+switch+test.Lts-assign as walk-assign-lts
+use Rattle.records.proofs.walker.+arms+assign+body+branch+branches+call+choice+conditional+else_arm+exact+first+front_list+label+last+list+lists+options+record+set+switch+test.Lts-assign as walk-assign-lts
 use Rattle.records.proofs.walker.body.Reads as walk-body
 use Rattle.records.proofs.walker.body.Kinds as walk-body-kinds
-use Rattle.records.proofs.walker.+arms+assign+body+branches+call+choice+conditional+else_arm+exact+first+label+last+list+lists+options+record+set+switch+test.Lts-body as walk-body-lts
+use Rattle.records.proofs.walker.+arms+assign+body+branch+branches+call+choice+conditional+else_arm+exact+first+front_list+label+last+list+lists+options+record+set+switch+test.Lts-body as walk-body-lts
+use Rattle.records.proofs.walker.branch.Reads as walk-branch
+use Rattle.records.proofs.walker.branch.Kinds as walk-branch-kinds
+use Rattle.records.proofs.walker.+arms+assign+body+branch+branches+call+choice+conditional+else_arm+exact+first+front_list+label+last+list+lists+options+record+set+switch+test.Lts-branch as walk-branch-lts
 use Rattle.records.proofs.walker.branches.Reads as walk-branches
 use Rattle.records.proofs.walker.branches.Kinds as walk-branches-kinds
-use Rattle.records.proofs.walker.+arms+assign+body+branches+call+choice+conditional+else_arm+exact+first+label+last+list+lists+options+record+set+switch+test.Lts-branches as walk-branches-lts
+use Rattle.records.proofs.walker.+arms+assign+body+branch+branches+call+choice+conditional+else_arm+exact+first+front_list+label+last+list+lists+options+record+set+switch+test.Lts-branches as walk-branches-lts
 use Rattle.records.proofs.walker.call.Reads as walk-call
 use Rattle.records.proofs.walker.call.Kinds as walk-call-kinds
-use Rattle.records.proofs.walker.+arms+assign+body+branches+call+choice+conditional+else_arm+exact+first+label+last+list+lists+options+record+set+switch+test.Lts-call as walk-call-lts
+use Rattle.records.proofs.walker.+arms+assign+body+branch+branches+call+choice+conditional+else_arm+exact+first+front_list+label+last+list+lists+options+record+set+switch+test.Lts-call as walk-call-lts
 use Rattle.records.proofs.walker.choice.Reads as walk-choice
 use Rattle.records.proofs.walker.choice.Kinds as walk-choice-kinds
-use Rattle.records.proofs.walker.+arms+assign+body+branches+call+choice+conditional+else_arm+exact+first+label+last+list+lists+options+record+set+switch+test.Lts-choice as walk-choice-lts
+use Rattle.records.proofs.walker.+arms+assign+body+branch+branches+call+choice+conditional+else_arm+exact+first+front_list+label+last+list+lists+options+record+set+switch+test.Lts-choice as walk-choice-lts
 use Rattle.records.proofs.walker.conditional.Reads as walk-conditional
 use Rattle.records.proofs.walker.conditional.Kinds as walk-conditional-kinds
-use Rattle.records.proofs.walker.+arms+assign+body+branches+call+choice+conditional+else_arm+exact+first+label+last+list+lists+options+record+set+switch+test.Lts-conditional as walk-conditional-lts
+use Rattle.records.proofs.walker.+arms+assign+body+branch+branches+call+choice+conditional+else_arm+exact+first+front_list+label+last+list+lists+options+record+set+switch+test.Lts-conditional as walk-conditional-lts
 use Rattle.records.proofs.walker.else_arm.Reads as walk-else
 use Rattle.records.proofs.walker.else_arm.Kinds as walk-else-kinds
-use Rattle.records.proofs.walker.+arms+assign+body+branches+call+choice+conditional+else_arm+exact+first+label+last+list+lists+options+record+set+switch+test.Lts-else_arm as walk-else-lts
+use Rattle.records.proofs.walker.+arms+assign+body+branch+branches+call+choice+conditional+else_arm+exact+first+front_list+label+last+list+lists+options+record+set+switch+test.Lts-else_arm as walk-else-lts
 use Rattle.records.proofs.walker.exact.Reads as walk-exact
 use Rattle.records.proofs.walker.exact.Kinds as walk-exact-kinds
-use Rattle.records.proofs.walker.+arms+assign+body+branches+call+choice+conditional+else_arm+exact+first+label+last+list+lists+options+record+set+switch+test.Lts-exact as walk-exact-lts
+use Rattle.records.proofs.walker.+arms+assign+body+branch+branches+call+choice+conditional+else_arm+exact+first+front_list+label+last+list+lists+options+record+set+switch+test.Lts-exact as walk-exact-lts
 use Rattle.records.proofs.walker.first.Reads as walk-first
 use Rattle.records.proofs.walker.first.Kinds as walk-first-kinds
-use Rattle.records.proofs.walker.+arms+assign+body+branches+call+choice+conditional+else_arm+exact+first+label+last+list+lists+options+record+set+switch+test.Lts-first as walk-first-lts
+use Rattle.records.proofs.walker.+arms+assign+body+branch+branches+call+choice+conditional+else_arm+exact+first+front_list+label+last+list+lists+options+record+set+switch+test.Lts-first as walk-first-lts
+use Rattle.records.proofs.walker.front_list.Reads as walk-front-list
+use Rattle.records.proofs.walker.front_list.Kinds as walk-front-list-kinds
+use Rattle.records.proofs.walker.+arms+assign+body+branch+branches+call+choice+conditional+else_arm+exact+first+front_list+label+last+list+lists+options+record+set+switch+test.Lts-front_list as walk-front-list-lts
 use Rattle.records.proofs.walker.label.Reads as walk-label
 use Rattle.records.proofs.walker.label.Kinds as walk-label-kinds
-use Rattle.records.proofs.walker.+arms+assign+body+branches+call+choice+conditional+else_arm+exact+first+label+last+list+lists+options+record+set+switch+test.Lts-label as walk-label-lts
+use Rattle.records.proofs.walker.+arms+assign+body+branch+branches+call+choice+conditional+else_arm+exact+first+front_list+label+last+list+lists+options+record+set+switch+test.Lts-label as walk-label-lts
 use Rattle.records.proofs.walker.last.Reads as walk-last
 use Rattle.records.proofs.walker.last.Kinds as walk-last-kinds
-use Rattle.records.proofs.walker.+arms+assign+body+branches+call+choice+conditional+else_arm+exact+first+label+last+list+lists+options+record+set+switch+test.Lts-last as walk-last-lts
+use Rattle.records.proofs.walker.+arms+assign+body+branch+branches+call+choice+conditional+else_arm+exact+first+front_list+label+last+list+lists+options+record+set+switch+test.Lts-last as walk-last-lts
 use Rattle.records.proofs.walker.list.Reads as walk-list
 use Rattle.records.proofs.walker.list.Kinds as walk-list-kinds
-use Rattle.records.proofs.walker.+arms+assign+body+branches+call+choice+conditional+else_arm+exact+first+label+last+list+lists+options+record+set+switch+test.Lts-list as walk-list-lts
+use Rattle.records.proofs.walker.+arms+assign+body+branch+branches+call+choice+conditional+else_arm+exact+first+front_list+label+last+list+lists+options+record+set+switch+test.Lts-list as walk-list-lts
 use Rattle.records.proofs.walker.lists.Reads as walk-lists
 use Rattle.records.proofs.walker.lists.Kinds as walk-lists-kinds
-use Rattle.records.proofs.walker.+arms+assign+body+branches+call+choice+conditional+else_arm+exact+first+label+last+list+lists+options+record+set+switch+test.Lts-lists as walk-lists-lts
+use Rattle.records.proofs.walker.+arms+assign+body+branch+branches+call+choice+conditional+else_arm+exact+first+front_list+label+last+list+lists+options+record+set+switch+test.Lts-lists as walk-lists-lts
 use Rattle.records.proofs.walker.options.Reads as walk-options
 use Rattle.records.proofs.walker.options.Kinds as walk-options-kinds
-use Rattle.records.proofs.walker.+arms+assign+body+branches+call+choice+conditional+else_arm+exact+first+label+last+list+lists+options+record+set+switch+test.Lts-options as walk-options-lts
+use Rattle.records.proofs.walker.+arms+assign+body+branch+branches+call+choice+conditional+else_arm+exact+first+front_list+label+last+list+lists+options+record+set+switch+test.Lts-options as walk-options-lts
 use Rattle.records.proofs.walker.record.Reads as walk-record
 use Rattle.records.proofs.walker.record.Kinds as walk-record-kinds
-use Rattle.records.proofs.walker.+arms+assign+body+branches+call+choice+conditional+else_arm+exact+first+label+last+list+lists+options+record+set+switch+test.Lts-record as walk-record-lts
+use Rattle.records.proofs.walker.+arms+assign+body+branch+branches+call+choice+conditional+else_arm+exact+first+front_list+label+last+list+lists+options+record+set+switch+test.Lts-record as walk-record-lts
 use Rattle.records.proofs.walker.set.Reads as walk-set
 use Rattle.records.proofs.walker.set.Kinds as walk-set-kinds
-use Rattle.records.proofs.walker.+arms+assign+body+branches+call+choice+conditional+else_arm+exact+first+label+last+list+lists+options+record+set+switch+test.Lts-set as walk-set-lts
+use Rattle.records.proofs.walker.+arms+assign+body+branch+branches+call+choice+conditional+else_arm+exact+first+front_list+label+last+list+lists+options+record+set+switch+test.Lts-set as walk-set-lts
 use Rattle.records.proofs.walker.switch.Reads as walk-switch
 use Rattle.records.proofs.walker.switch.Kinds as walk-switch-kinds
-use Rattle.records.proofs.walker.+arms+assign+body+branches+call+choice+conditional+else_arm+exact+first+label+last+list+lists+options+record+set+switch+test.Lts-switch as walk-switch-lts
+use Rattle.records.proofs.walker.+arms+assign+body+branch+branches+call+choice+conditional+else_arm+exact+first+front_list+label+last+list+lists+options+record+set+switch+test.Lts-switch as walk-switch-lts
 use Rattle.records.proofs.walker.test.Reads as walk-test
 use Rattle.records.proofs.walker.test.Kinds as walk-test-kinds
-use Rattle.records.proofs.walker.+arms+assign+body+branches+call+choice+conditional+else_arm+exact+first+label+last+list+lists+options+record+set+switch+test.Lts-test as walk-test-lts
-use Rattle.fields.proofs.front_span.Reads as front-span-reads
+use Rattle.records.proofs.walker.+arms+assign+body+branch+branches+call+choice+conditional+else_arm+exact+first+front_list+label+last+list+lists+options+record+set+switch+test.Lts-test as walk-test-lts
 use Rattle.fields.proofs.read_flag.Reads as read-flag-reads
 use Rattle.fields.proofs.read_head.Reads as read-head-reads
 use Rattle.fields.proofs.read_kind.Reads as read-kind-reads
 use Rattle.fields.proofs.read_list.Reads as read-list-reads
 use Rattle.fields.proofs.read_name.Reads as read-name-reads
-use Rattle.fields.proofs.test_span.Reads as test-span-reads
 use Rattle.records.proofs.sorts.is_bare.Reads as is-bare-reads
 use Rattle.records.proofs.walker.at_end.Reads as at-end-reads
 use Rattle.std.proofs.num.wrapping_add_usize.Reads as wrapping-add-usize-reads
@@ -83,8 +87,11 @@ abbrev pub μ-walk-assign : Measures 2 walk-assign-kinds.ps ℕ
 abbrev pub μ-walk-body : Measures 2 walk-body-kinds.ps ℕ
 μ-walk-body κs a = 4 * length (a .0 .now) + 2
 
+abbrev pub μ-walk-branch : Measures 2 walk-branch-kinds.ps ℕ
+μ-walk-branch κs a = 4 * length (a .0 .now) + 1
+
 abbrev pub μ-walk-branches : Measures 2 walk-branches-kinds.ps ℕ
-μ-walk-branches κs a = 4 * length (a .0 .now) + 1
+μ-walk-branches κs a = 4 * length (a .0 .now) + 2
 
 abbrev pub μ-walk-call : Measures 2 walk-call-kinds.ps ℕ
 μ-walk-call κs a = 4 * length (a .0 .now) + 1
@@ -103,6 +110,9 @@ abbrev pub μ-walk-exact : Measures 2 walk-exact-kinds.ps ℕ
 
 abbrev pub μ-walk-first : Measures 2 walk-first-kinds.ps ℕ
 μ-walk-first κs a = 4 * length (a .0 .now) + 0
+
+abbrev pub μ-walk-front-list : Measures 2 walk-front-list-kinds.ps ℕ
+μ-walk-front-list κs a = 4 * length (a .0 .now) + 0
 
 abbrev pub μ-walk-label : Measures 2 walk-label-kinds.ps ℕ
 μ-walk-label κs a = 4 * length (a .0 .now) + 1
@@ -150,6 +160,12 @@ module _ (t : ℕ) where
   abbrev pub walk-body-below : In 2 walk-body-kinds.ps
   walk-body-below = and 2 walk-body-kinds.ps (falls 2 walk-body-kinds.ps _<_ μ-walk-body t) walk-body.Pre
 
+  abbrev pub walk-branch-at : In 2 walk-branch-kinds.ps
+  walk-branch-at = and 2 walk-branch-kinds.ps (is 2 walk-branch-kinds.ps μ-walk-branch t) walk-branch.Pre
+
+  abbrev pub walk-branch-below : In 2 walk-branch-kinds.ps
+  walk-branch-below = and 2 walk-branch-kinds.ps (falls 2 walk-branch-kinds.ps _<_ μ-walk-branch t) walk-branch.Pre
+
   abbrev pub walk-branches-at : In 2 walk-branches-kinds.ps
   walk-branches-at = and 2 walk-branches-kinds.ps (is 2 walk-branches-kinds.ps μ-walk-branches t) walk-branches.Pre
 
@@ -191,6 +207,12 @@ module _ (t : ℕ) where
 
   abbrev pub walk-first-below : In 2 walk-first-kinds.ps
   walk-first-below = and 2 walk-first-kinds.ps (falls 2 walk-first-kinds.ps _<_ μ-walk-first t) walk-first.Pre
+
+  abbrev pub walk-front-list-at : In 2 walk-front-list-kinds.ps
+  walk-front-list-at = and 2 walk-front-list-kinds.ps (is 2 walk-front-list-kinds.ps μ-walk-front-list t) walk-front-list.Pre
+
+  abbrev pub walk-front-list-below : In 2 walk-front-list-kinds.ps
+  walk-front-list-below = and 2 walk-front-list-kinds.ps (falls 2 walk-front-list-kinds.ps _<_ μ-walk-front-list t) walk-front-list.Pre
 
   abbrev pub walk-label-at : In 2 walk-label-kinds.ps
   walk-label-at = and 2 walk-label-kinds.ps (is 2 walk-label-kinds.ps μ-walk-label t) walk-label.Pre
@@ -247,7 +269,7 @@ module _ (t : ℕ) where
   walk-test-below = and 2 walk-test-kinds.ps (falls 2 walk-test-kinds.ps _<_ μ-walk-test t) walk-test.Pre
 
   abbrev pub walk-arms-uses : walk-arms-lts.Claims
-  walk-arms-uses = (read-list-reads.Asked, read-list-reads.Learnt, walk-list-below, walk-list.Post, walk-else-below, walk-else.Post)
+  walk-arms-uses = (walk-front-list-below, walk-front-list.Post, walk-else-below, walk-else.Post)
 
   abbrev pub walk-assign-uses : walk-assign-lts.Claims
   walk-assign-uses = (walk-set-below, walk-set.Post)
@@ -255,8 +277,11 @@ module _ (t : ℕ) where
   abbrev pub walk-body-uses : walk-body-lts.Claims
   walk-body-uses = (walk-exact-below, walk-exact.Post, walk-single-reads.Asked, walk-single-reads.Learnt, walk-call-below, walk-call.Post, walk-conditional-below, walk-conditional.Post, walk-lists-below, walk-lists.Post, walk-switch-below, walk-switch.Post, walk-assign-below, walk-assign.Post, walk-choice-below, walk-choice.Post)
 
+  abbrev pub walk-branch-uses : walk-branch-lts.Claims
+  walk-branch-uses = (walk-test-below, walk-test.Post, walk-front-list-below, walk-front-list.Post)
+
   abbrev pub walk-branches-uses : walk-branches-lts.Claims
-  walk-branches-uses = (walk-test-below, walk-test.Post, test-span-reads.Asked, test-span-reads.Learnt, read-list-reads.Asked, read-list-reads.Learnt, walk-list-below, walk-list.Post)
+  walk-branches-uses = (walk-branch-below, walk-branch.Post)
 
   abbrev pub walk-call-uses : walk-call-lts.Claims
   walk-call-uses = (read-name-reads.Asked, read-name-reads.Learnt, walk-list-below, walk-list.Post)
@@ -265,31 +290,34 @@ module _ (t : ℕ) where
   walk-choice-uses = (read-flag-reads.Asked, read-flag-reads.Learnt, walk-options-below, walk-options.Post, walk-label-below, walk-label.Post)
 
   abbrev pub walk-conditional-uses : walk-conditional-lts.Claims
-  walk-conditional-uses = (walk-first-below, walk-first.Post, front-span-reads.Asked, front-span-reads.Learnt, walk-arms-below, walk-arms.Post)
+  walk-conditional-uses = (walk-first-below, walk-first.Post, walk-arms-below, walk-arms.Post)
 
   abbrev pub walk-else-uses : walk-else-lts.Claims
   walk-else-uses = (read-flag-reads.Asked, read-flag-reads.Learnt, at-end-reads.Asked, at-end-reads.Learnt, walk-last-below, walk-last.Post)
 
   abbrev pub walk-exact-uses : walk-exact-lts.Claims
-  walk-exact-uses = (at-end-reads.Asked, at-end-reads.Learnt, walk-first-below, walk-first.Post, front-span-reads.Asked, front-span-reads.Learnt, walk-exact-below, walk-exact.Post)
+  walk-exact-uses = (at-end-reads.Asked, at-end-reads.Learnt, walk-first-below, walk-first.Post, walk-exact-below, walk-exact.Post)
 
   abbrev pub walk-first-uses : walk-first-lts.Claims
   walk-first-uses = (read-head-reads.Asked, read-head-reads.Learnt, walk-record-below, walk-record.Post)
+
+  abbrev pub walk-front-list-uses : walk-front-list-lts.Claims
+  walk-front-list-uses = (read-list-reads.Asked, read-list-reads.Learnt, walk-list-below, walk-list.Post)
 
   abbrev pub walk-label-uses : walk-label-lts.Claims
   walk-label-uses = (read-name-reads.Asked, read-name-reads.Learnt, walk-options-below, walk-options.Post)
 
   abbrev pub walk-last-uses : walk-last-lts.Claims
-  walk-last-uses = (read-list-reads.Asked, read-list-reads.Learnt, walk-list-below, walk-list.Post, at-end-reads.Asked, at-end-reads.Learnt)
+  walk-last-uses = (walk-front-list-below, walk-front-list.Post, at-end-reads.Asked, at-end-reads.Learnt)
 
   abbrev pub walk-list-uses : walk-list-lts.Claims
   walk-list-uses = (read-head-reads.Asked, read-head-reads.Learnt, is-bare-reads.Asked, is-bare-reads.Learnt, wrapping-add-usize-reads.Asked, wrapping-add-usize-reads.Learnt, walk-record-below, walk-record.Post)
 
   abbrev pub walk-lists-uses : walk-lists-lts.Claims
-  walk-lists-uses = (read-list-reads.Asked, read-list-reads.Learnt, walk-list-below, walk-list.Post)
+  walk-lists-uses = (walk-front-list-below, walk-front-list.Post)
 
   abbrev pub walk-options-uses : walk-options-lts.Claims
-  walk-options-uses = (read-list-reads.Asked, read-list-reads.Learnt, walk-list-below, walk-list.Post, walk-last-below, walk-last.Post)
+  walk-options-uses = (walk-front-list-below, walk-front-list.Post, walk-last-below, walk-last.Post)
 
   abbrev pub walk-record-uses : walk-record-lts.Claims
   walk-record-uses = (read-kind-reads.Asked, read-kind-reads.Learnt, note-reads.Asked, note-reads.Learnt, walk-body-below, walk-body.Post)
@@ -298,7 +326,7 @@ module _ (t : ℕ) where
   walk-set-uses = (read-name-reads.Asked, read-name-reads.Learnt, walk-exact-below, walk-exact.Post)
 
   abbrev pub walk-switch-uses : walk-switch-lts.Claims
-  walk-switch-uses = (walk-first-below, walk-first.Post, front-span-reads.Asked, front-span-reads.Learnt, walk-branches-below, walk-branches.Post)
+  walk-switch-uses = (walk-first-below, walk-first.Post, walk-branches-below, walk-branches.Post)
 
   abbrev pub walk-test-uses : walk-test-lts.Claims
   walk-test-uses = (read-flag-reads.Asked, read-flag-reads.Learnt, walk-first-below, walk-first.Post)
