@@ -18,7 +18,7 @@ fits c =
     title-fits keeping (a .base) (st (a .out .now) (a .n)) (a .s .now) (c .before .before .before .before .before .read-title .ensures) (k .0 .0) (k .0 .1 .0) (k .1)
 
 sub-at-end : tie.Need-sub-at-end
-sub-at-end c = fits c .1
+sub-at-end c = omega (arith, fits c)
 
 part-at-end-start : tie.Need-part-at-end-start
 part-at-end-start c = omega (arith, fits c)
