@@ -22,7 +22,7 @@ use Rattle.records.specs.declared.Walk.the-variants as walk
 use Rattle.records.specs.Trace.{Trace, andThen, shift}
 use Rattle.records.specs.Grammar.{Reading, Reader, frontAt, front, nothing, records, listedAt, listed, flaggedAt, tested, branch}
 use Rattle.records.specs.Work.{St, st, Ran, ended, broke, Visitor, run, walkOf, ranOut, pieceReadOf, Told, ToldTo, headEndOf, headEnd, listEndOf, listEnd, testEndOf, testEnd, branchEnd}
-use Rattle.records.proofs.Readings.{front-then, listed-then, branch-tested, branch-then}
+use Rattle.records.proofs.Readings.{front-then, branch-tested, branch-then}
 use Rattle.records.proofs.Walking.{then-on, then-else, front-alone, listed-alone, flagged-off, flagged-on, flagged-refused, told-done}
 
 -- 1. An answer with a place, and one without
@@ -156,12 +156,6 @@ module _ (v : Visitor St) (b : ℕ) (s₀ : St) (f : Reader) (s : List ℕ) wher
         by-span : (m : ℕ) (x : Span) → walk.Done m ≡ walkOf (run v b s₀ (listedAt x f nothing s)) → 4 ≤ listEndOf x
         by-span m (Span.Bytes n) z = omega arith
         by-span m (Span.Refused r) z = let y : _≡_ {A = ℕ} 0 1 = cc in absurd (omega arith)
-
-    pub listed-on : (k : Reading) (e m : ℕ) → a ≡ piece-read.To e m → run v b s₀ (listed f k s) ≡ run v (b + e) (st o m) (k (take (length s - e) (drop e s)))
-    listed-on k = piece-on v b s₀ (listed f nothing s) (listEnd s) g k s (listed f k s) (listed-then f k s (listOf s))
-
-    pub listed-else : (k : Reading) (r : Refusal) → a ≡ piece-read.Refused r → Told (run v b s₀ (listed f k s)) (walk.Refused r) o
-    listed-else k = piece-else v b s₀ (listed f nothing s) (listEnd s) g (shift (listEnd s) (k (drop (listEnd s) s))) (listed f k s) (listed-then f k s (listOf s))
 
 -- 4. The test of a branch
 

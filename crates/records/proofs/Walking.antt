@@ -109,6 +109,27 @@ module _ (v : Visitor St) (b : ℕ) (s₀ : St) where
       let inside = records f (take (to - 4) (drop 4 s)) in
       rw (span-to 4 (listOf s) e to q .0, shift-done (4 + (to - 4)), then-done (shift 4 inside), run-shift v b 4 s₀ inside) g
 
+  listed-at : (f : Reader) (k : Reading) (s : List ℕ) (to : ℕ) {r : Reach} → r ≡ spanReach 4 (listOf s) → r ≡ reach.To to
+      → listed f k s ≡ andThen (shift 4 (records f (take (to - 4) (drop 4 s)))) (shift to (k (drop to s)))
+  unfolding listedAt
+  listed-at f k s to e q = let h = span-to 4 (listOf s) e to q in rw (h .0, h .1)
+
+  inside : (f : Reader) (s : List ℕ) (to : ℕ) {w : Walk} {o : List ℕ} → Told (run v (b + 4) s₀ (records f (take (to - 4) (drop 4 s)))) w o
+      → Told (run v b s₀ (shift 4 (records f (take (to - 4) (drop 4 s))))) w o
+  inside f s to g = rw (run-shift v b 4 s₀ (records f (take (to - 4) (drop 4 s)))) g
+
+  pub listed-on : (f : Reader) (k : Reading) (s : List ℕ) (to m : ℕ) {r : Reach} {w : Walk} {o : List ℕ} → r ≡ spanReach 4 (listOf s) → r ≡ reach.To to
+      → Told (run v (b + 4) s₀ (records f (take (to - 4) (drop 4 s)))) w o → w ≡ walk.Done m
+      → run v b s₀ (listed f k s) ≡ run v (b + to) (st o m) (k (take (length s - to) (drop to s)))
+  listed-on f k s to m e q g z =
+      rw (to-end to s, listed-at f k s to e q) (then-on (shift 4 (records f (take (to - 4) (drop 4 s)))) (k (drop to s)) to m (inside f s to g) z)
+
+  pub listed-else : (f : Reader) (k : Reading) (s : List ℕ) (to : ℕ) {r : Reach} {w : Walk} {o : List ℕ} → r ≡ spanReach 4 (listOf s) → r ≡ reach.To to
+      → Told (run v (b + 4) s₀ (records f (take (to - 4) (drop 4 s)))) w o → {x : Refusal} → w ≡ walk.Refused x
+      → Told (run v b s₀ (listed f k s)) w o
+  listed-else f k s to e q g z =
+      rw (listed-at f k s to e q) (then-else (shift 4 (records f (take (to - 4) (drop 4 s)))) (shift to (k (drop to s))) (inside f s to g) z)
+
   -- a name
   pub named-refused : (k : Reading) (s : List ℕ) (x : Refusal) {r : Reach} → r ≡ spanReach 1 (nameOf s) → r ≡ reach.Refused x
       → Told (run v b s₀ (named k s)) (walk.Refused x) (s₀ .out)

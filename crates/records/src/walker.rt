@@ -198,10 +198,16 @@ fn arms(s: &[u8], base: usize, left: usize, out: &mut [u32], n: usize) -> Walk
     requires { ⌜ base + length (now s) < 2 ^ 20 ⌝ }
     ensures { λ r. ⌜ Told (run keeping base (st (now (out .entry)) n) (arms (recordOf left) (now (s .entry)))) r (now (out .exit)) ⌝ }
 {
-    let piece = front_list(s, Role::Branch, base, left, out, n);
-    match piece {
-        PieceRead::Refused(r) => Walk::Refused(r),
-        PieceRead::To(e, m) => else_arm(&s[e..], base + e, left, out, m),
+    let reach = read_list(s);
+    match reach {
+        Reach::Refused(r) => Walk::Refused(r),
+        Reach::To(e) => {
+            let w = list(&s[4..e], Role::Branch, base + 4, left, out, n);
+            let Walk::Done(m) = w else {
+                return w;
+            };
+            else_arm(&s[e..], base + e, left, out, m)
+        }
     }
 }
 
@@ -223,10 +229,16 @@ fn last(s: &[u8], role: Role, base: usize, left: usize, out: &mut [u32], n: usiz
     requires { ⌜ base + length (now s) < 2 ^ 20 ⌝ }
     ensures { λ r. ⌜ Told (run keeping base (st (now (out .entry)) n) (last role (recordOf left) (now (s .entry)))) r (now (out .exit)) ⌝ }
 {
-    let piece = front_list(s, role, base, left, out, n);
-    match piece {
-        PieceRead::Refused(r) => Walk::Refused(r),
-        PieceRead::To(e, m) => at_end(&s[e..], m),
+    let reach = read_list(s);
+    match reach {
+        Reach::Refused(r) => Walk::Refused(r),
+        Reach::To(e) => {
+            let w = list(&s[4..e], role, base + 4, left, out, n);
+            let Walk::Done(m) = w else {
+                return w;
+            };
+            at_end(&s[e..], m)
+        }
     }
 }
 
@@ -239,12 +251,16 @@ fn lists(s: &[u8], base: usize, left: usize, out: &mut [u32], n: usize) -> Walk
     let mut at = base;
     let mut count = n;
     while 0 < t.len() {
-        let piece = front_list(t, Role::Node, at, left, out, count);
-        match piece {
-            PieceRead::Refused(r) => {
+        let reach = read_list(t);
+        match reach {
+            Reach::Refused(r) => {
                 return Walk::Refused(r);
             }
-            PieceRead::To(e, m) => {
+            Reach::To(e) => {
+                let w = list(&t[4..e], Role::Node, at + 4, left, out, count);
+                let Walk::Done(m) = w else {
+                    return w;
+                };
                 count = m;
                 at = at + e;
                 t = &t[e..];
@@ -284,10 +300,16 @@ fn options(s: &[u8], base: usize, left: usize, out: &mut [u32], n: usize) -> Wal
     requires { ⌜ base + length (now s) < 2 ^ 20 ⌝ }
     ensures { λ r. ⌜ Told (run keeping base (st (now (out .entry)) n) (options (recordOf left) (now (s .entry)))) r (now (out .exit)) ⌝ }
 {
-    let piece = front_list(s, Role::Cond, base, left, out, n);
-    match piece {
-        PieceRead::Refused(r) => Walk::Refused(r),
-        PieceRead::To(e, m) => last(&s[e..], Role::Node, base + e, left, out, m),
+    let reach = read_list(s);
+    match reach {
+        Reach::Refused(r) => Walk::Refused(r),
+        Reach::To(e) => {
+            let w = list(&s[4..e], Role::Cond, base + 4, left, out, n);
+            let Walk::Done(m) = w else {
+                return w;
+            };
+            last(&s[e..], Role::Node, base + e, left, out, m)
+        }
     }
 }
 

@@ -269,7 +269,7 @@ module _ (t : ℕ) where
   walk-test-below = and 2 walk-test-kinds.ps (falls 2 walk-test-kinds.ps _<_ μ-walk-test t) walk-test.Pre
 
   abbrev pub walk-arms-uses : walk-arms-lts.Claims
-  walk-arms-uses = (walk-front-list-below, walk-front-list.Post, walk-else-below, walk-else.Post)
+  walk-arms-uses = (read-list-reads.Asked, read-list-reads.Learnt, walk-list-below, walk-list.Post, walk-else-below, walk-else.Post)
 
   abbrev pub walk-assign-uses : walk-assign-lts.Claims
   walk-assign-uses = (walk-set-below, walk-set.Post)
@@ -308,16 +308,16 @@ module _ (t : ℕ) where
   walk-label-uses = (read-name-reads.Asked, read-name-reads.Learnt, walk-options-below, walk-options.Post)
 
   abbrev pub walk-last-uses : walk-last-lts.Claims
-  walk-last-uses = (walk-front-list-below, walk-front-list.Post, at-end-reads.Asked, at-end-reads.Learnt)
+  walk-last-uses = (read-list-reads.Asked, read-list-reads.Learnt, walk-list-below, walk-list.Post, at-end-reads.Asked, at-end-reads.Learnt)
 
   abbrev pub walk-list-uses : walk-list-lts.Claims
   walk-list-uses = (read-head-reads.Asked, read-head-reads.Learnt, is-bare-reads.Asked, is-bare-reads.Learnt, wrapping-add-usize-reads.Asked, wrapping-add-usize-reads.Learnt, walk-record-below, walk-record.Post)
 
   abbrev pub walk-lists-uses : walk-lists-lts.Claims
-  walk-lists-uses = (walk-front-list-below, walk-front-list.Post)
+  walk-lists-uses = (read-list-reads.Asked, read-list-reads.Learnt, walk-list-below, walk-list.Post)
 
   abbrev pub walk-options-uses : walk-options-lts.Claims
-  walk-options-uses = (walk-front-list-below, walk-front-list.Post, walk-last-below, walk-last.Post)
+  walk-options-uses = (read-list-reads.Asked, read-list-reads.Learnt, walk-list-below, walk-list.Post, walk-last-below, walk-last.Post)
 
   abbrev pub walk-record-uses : walk-record-lts.Claims
   walk-record-uses = (read-kind-reads.Asked, read-kind-reads.Learnt, note-reads.Asked, note-reads.Learnt, walk-body-below, walk-body.Post)

@@ -2,44 +2,60 @@
 use Prim.Native.Nat.{ℕ, _≤_}
 use native.Mathlib.Omega.{arith}
 use lib.ListN.{length}
+use Rattle.fields.proofs.Laws.{list-within}
 use Rattle.records.specs.Grammar.{recordOf, last, ending}
 use Rattle.records.specs.Work.{st, keeping}
-use Rattle.records.proofs.Walking.{told-end}
-use Rattle.records.proofs.PiecesRead.{listed-fits, listed-on, listed-else}
+use Rattle.records.proofs.Walking.{listed-refused, listed-else, listed-on, told-end}
 use borrow.Author.Needs.{needs}
 use Rattle.records.proofs.walker.last.Reads as walk-last
 use Rattle.records.proofs.walker.+arms+assign+body+branch+branches+call+choice+conditional+else_arm+exact+first+front_list+label+last+list+lists+options+record+set+switch+test.Lts-last as lts
 use Rattle.records.proofs.walker.+arms+assign+body+branch+branches+call+choice+conditional+else_arm+exact+first+front_list+label+last+list+lists+options+record+set+switch+test.Proof.Base.{walk-last-at, walk-last-uses}
 
 module _ (t : ℕ) where
-  piece-requires : lts.Need-front-list-requires (walk-last-uses t) (walk-last-at t) walk-last.Post
-  piece-requires c κs = omega (arith, c .before .before .before .pre .0, c .before .before .before .pre .1)
+  fits : (c : lts.After-known-told2 (walk-last-uses t) (walk-last-at t) walk-last.Post) → (4 ≤ c .before .reach2 .given .0 .0) × (c .before .reach2 .given .0 .0 ≤ length (c .before .before .before .before .before .before .args .s .now))
+  fits c = list-within (c .before .before .before .before .before .before .args .s .now) (c .before .reach2 .given .0 .0) (c .before .before .before .read-list .ensures) (c .before .reach2 .given .1)
 
-  refused : lts.Need-returns (walk-last-uses t) (walk-last-at t) walk-last.Post
+  refused : lts.Need-returns-2 (walk-last-uses t) (walk-last-at t) walk-last.Post
   unfolding last
   refused c =
-      let a = c .before .before .before .before .before .before .before .before .before .args in
-      let k = c .before .piece .given in
-      listed-else keeping (a .base) (st (a .out .now) (a .n)) (recordOf (a .left) (a .role)) (a .s .now) (c .before .before .before .before .before .front-list .ensures) ending (k .0 .0) (k .1)
+      let a = c .before .before .before .before .before .before .args in
+      listed-refused keeping (a .base) (st (a .out .now) (a .n)) (recordOf (a .left) (a .role)) ending (a .s .now) (c .before .reach .given .0 .0) (c .before .before .before .read-list .ensures) (c .before .reach .given .1)
 
-  fits : (c : lts.After-known-told2 (walk-last-uses t) (walk-last-at t) walk-last.Post) → (4 ≤ c .before .piece2 .given .0 .0) × (c .before .piece2 .given .0 .0 ≤ length (c .before .before .before .before .before .before .before .before .before .args .s .now))
-  fits c =
-      let a = c .before .before .before .before .before .before .before .before .before .args in
-      let k = c .before .piece2 .given in
-      listed-fits keeping (a .base) (st (a .out .now) (a .n)) (recordOf (a .left) (a .role)) (a .s .now) (c .before .before .before .before .before .front-list .ensures) (k .0 .0) (k .0 .1 .0) (k .1)
+  sub-piece : lts.Need-sub-list (walk-last-uses t) (walk-last-at t) walk-last.Post
+  sub-piece c = fits c .0
+
+  part-start : lts.Need-part-list-start (walk-last-uses t) (walk-last-at t) walk-last.Post
+  part-start c = omega (arith, fits c)
+
+  part-end : lts.Need-part-list-end (walk-last-uses t) (walk-last-at t) walk-last.Post
+  part-end c = omega (arith, fits c)
+
+  add-4 : lts.Need-add-list (walk-last-uses t) (walk-last-at t) walk-last.Post
+  add-4 c = omega (arith, fits (c .before), c .before .before .before .before .before .before .before .pre .1)
+
+  piece-requires : lts.Need-list-requires (walk-last-uses t) (walk-last-at t) walk-last.Post
+  piece-requires c κs = omega (arith, fits (c .before .before), c .before .list-arg .given .2, c .before .before .before .before .before .before .before .before .pre .0, c .before .before .before .before .before .before .before .before .pre .1)
+
+  inside-refused : lts.Need-returns (walk-last-uses t) (walk-last-at t) walk-last.Post
+  unfolding last
+  inside-refused c =
+      let a = c .before .before .before .before .before .before .before .before .before .before .before .before .before .args in
+      let k = c .before .before .before .before .before .before .before .before .reach2 .given in
+      listed-else keeping (a .base) (st (a .out .now) (a .n)) (recordOf (a .left) (a .role)) ending (a .s .now) (k .0 .0) (c .before .before .before .before .before .before .before .before .before .before .read-list .ensures) (k .1) (c .before .before .before .before .list .ensures) (c .enum-told .given .1)
 
   sub-rest : lts.Need-sub-at-end (walk-last-uses t) (walk-last-at t) walk-last.Post
-  sub-rest c = fits c .1
+  sub-rest c = omega (arith, fits (c .before .before .before .before .before .before .before .before))
 
   part-rest : lts.Need-part-at-end-start (walk-last-uses t) (walk-last-at t) walk-last.Post
-  part-rest c = omega (arith, fits c)
+  part-rest c = omega (arith, fits (c .before .before .before .before .before .before .before .before))
 
-  rest : lts.Need-returns-2 (walk-last-uses t) (walk-last-at t) walk-last.Post
+  rest : lts.Need-returns-3 (walk-last-uses t) (walk-last-at t) walk-last.Post
   unfolding last
   rest c =
-      let a = c .before .before .before .before .before .before .before .before .before .before .before .args in
-      let k = c .before .before .before .piece2 .given in
-      rw (listed-on keeping (a .base) (st (a .out .now) (a .n)) (recordOf (a .left) (a .role)) (a .s .now) (c .before .before .before .before .before .before .before .front-list .ensures) ending (k .0 .0) (k .0 .1 .0) (k .1)) (told-end _ _ _ _ (c .at-end .ensures))
+      let a = c .before .before .before .before .before .before .before .before .before .before .before .before .before .before .before .before .args in
+      let k = c .before .before .before .before .before .before .before .before .before .before .before .reach2 .given in
+      let w = c .before .before .before .w .given in
+      rw (listed-on keeping (a .base) (st (a .out .now) (a .n)) (recordOf (a .left) (a .role)) ending (a .s .now) (k .0 .0) (w .0 .0) (c .before .before .before .before .before .before .before .before .before .before .before .before .before .read-list .ensures) (k .1) (c .before .before .before .before .before .before .before .list .ensures) (w .1)) (told-end _ _ _ _ (c .at-end .ensures))
 
   pub ok : {M : Type 1} → lts.Closed (walk-last-uses t) (walk-last-at t) walk-last.Post M
-  ok = lts.spec (walk-last-uses t) (walk-last-at t) walk-last.Post piece-requires (λ c. search needs) (λ c. search needs) sub-rest part-rest (λ c. search needs) (λ c κs. search needs) (λ c. search needs) refused (λ c. search needs) rest
+  ok = lts.spec (walk-last-uses t) (walk-last-at t) walk-last.Post (λ c κs. search needs) (λ c. search needs) (λ c. search needs) sub-piece part-start part-end add-4 piece-requires (λ c. search needs) (λ c. search needs) (λ c. search needs) inside-refused sub-rest part-rest (λ c. search needs) (λ c κs. search needs) refused (λ c. search needs) rest
