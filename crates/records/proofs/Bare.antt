@@ -11,46 +11,33 @@ use Rattle.fields.specs.declared.HeadRead.{HeadRead}
 use Rattle.fields.specs.declared.HeadRead.the-variants as head-read
 use Rattle.fields.specs.Bytes.{headOf, headRead}
 use Rattle.fields.specs.Kinds.{kindOf, nodeKind, condKind, exprKind}
-use Rattle.records.specs.Grammar.{Reading, front, recordOf, bodyOf, exact, ending}
+use Rattle.records.specs.Grammar.{Reading, front, recordOf, bodyOf, exact, ending, nothing}
 use Rattle.records.specs.Items.{sortOf}
+use Rattle.records.specs.declared.PieceRead.the-variants as piece-read
 use Rattle.records.specs.declared.Walk.the-variants as walk
-use Rattle.records.specs.Work.{st, run, keeping, Told, BareKind, Bare}
+use Rattle.records.specs.Work.{st, run, keeping, Told, ToldTo, headEnd, BareKind, Bare}
 use Rattle.records.proofs.Marks.{note-plain}
+use Rattle.records.proofs.PiecesRead.{first-answers}
 use Rattle.records.proofs.Walking.{record-on, told-done, front-on}
 
 -- 1. The kinds
 
-pub bare-node : (kind : ℕ) → kind < 2 → BareKind Node kind
+-- kind 0, in every role
+pub bare-zero : (role : Role) → BareKind role 0
+unfolding kindOf nodeKind condKind exprKind sortOf
+bare-zero Node = record { inner = Visited; nothing-inside = refl; is-plain = λ q. refl }
+bare-zero Branch = record { inner = Visited; nothing-inside = refl; is-plain = λ q. refl }
+bare-zero Cond = record { inner = Visited; nothing-inside = refl; is-plain = λ q. refl }
+bare-zero Visited = record { inner = Visited; nothing-inside = refl; is-plain = λ q. refl }
+bare-zero Argument = record { inner = Unvisited; nothing-inside = refl; is-plain = λ q. refl }
+bare-zero Unvisited = record { inner = Unvisited; nothing-inside = refl; is-plain = λ q. refl }
+
+-- nodes of kinds 0 and 1, directly in a branch or not
+pub bare-node : (kind : ℕ) → kind < 2 → BareKind Node kind × BareKind Branch kind
 unfolding kindOf nodeKind sortOf
-bare-node zero p = record { inner = Visited; nothing-inside = refl; is-plain = λ q. refl }
-bare-node (suc zero) p = record { inner = Visited; nothing-inside = refl; is-plain = λ q. refl }
+bare-node zero p = (bare-zero Node, bare-zero Branch)
+bare-node (suc zero) p = (record { inner = Visited; nothing-inside = refl; is-plain = λ q. refl }, record { inner = Visited; nothing-inside = refl; is-plain = λ q. refl })
 bare-node (suc (suc k)) p = absurd (omega arith)
-
-pub bare-branch : (kind : ℕ) → kind < 2 → BareKind Branch kind
-unfolding kindOf nodeKind sortOf
-bare-branch zero p = record { inner = Visited; nothing-inside = refl; is-plain = λ q. refl }
-bare-branch (suc zero) p = record { inner = Visited; nothing-inside = refl; is-plain = λ q. refl }
-bare-branch (suc (suc k)) p = absurd (omega arith)
-
-pub bare-cond : (kind : ℕ) → kind < 1 → BareKind Cond kind
-unfolding kindOf condKind sortOf
-bare-cond zero p = record { inner = Visited; nothing-inside = refl; is-plain = λ q. refl }
-bare-cond (suc k) p = absurd (omega arith)
-
-pub bare-visited : (kind : ℕ) → kind < 1 → BareKind Visited kind
-unfolding kindOf exprKind sortOf
-bare-visited zero p = record { inner = Visited; nothing-inside = refl; is-plain = λ q. refl }
-bare-visited (suc k) p = absurd (omega arith)
-
-pub bare-argument : (kind : ℕ) → kind < 1 → BareKind Argument kind
-unfolding kindOf exprKind sortOf
-bare-argument zero p = record { inner = Unvisited; nothing-inside = refl; is-plain = λ q. refl }
-bare-argument (suc k) p = absurd (omega arith)
-
-pub bare-unvisited : (kind : ℕ) → kind < 1 → BareKind Unvisited kind
-unfolding kindOf exprKind sortOf
-bare-unvisited zero p = record { inner = Unvisited; nothing-inside = refl; is-plain = λ q. refl }
-bare-unvisited (suc k) p = absurd (omega arith)
 
 -- 2. A walk over such a record
 
@@ -67,3 +54,8 @@ module _ (b : ℕ) (out : List ℕ) (n : ℕ) {next : ℕ} (more : next ≡ (n +
   pub bare-on : (k : Reading) (s : List ℕ) (kind to : ℕ) {r : HeadRead} → Bare role kind to left → r ≡ headRead (headOf s) → r ≡ head-read.To kind to
       → run keeping b (st out n) (front (recordOf left role) k s) ≡ run keeping (b + to) (st out next) (k (take (length s - to) (drop to s)))
   bare-on k s kind to h e q = front-on keeping b (st out n) (recordOf left role) k s kind to next e q (rw (none-inside to s (h .empty)) (bare-record kind to h)) refl
+
+  -- the answer of a call that reads such a record
+  pub bare-answers : (s : List ℕ) (kind to : ℕ) {r : HeadRead} → Bare role kind to left → r ≡ headRead (headOf s) → r ≡ head-read.To kind to
+      → ToldTo (run keeping b (st out n) (front (recordOf left role) nothing s)) (headEnd s) (piece-read.To to next) out
+  bare-answers s kind to h e q = first-answers keeping b (st out n) (recordOf left role) s kind to e q (rw (none-inside to s (h .empty)) (bare-record kind to h)) next refl

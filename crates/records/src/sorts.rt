@@ -139,17 +139,17 @@ pub fn label_bit(sort: u8, payload: &[u8]) -> u32
     }
 }
 
-// A record of this kind has nothing inside it, and is plain: text and the like. A false says nothing.
+// A record of this kind has nothing inside it, and is plain: nodes of kinds 0 and 1, conditions of kind Bool, constants. A false says nothing.
 fn is_bare_kind(role: Role, kind: u8) -> bool
     ensures { λ r. ⌜ (r ≡ true → BareKind role kind) ⌝ }
 {
     match role {
         Role::Node => kind < 2,
         Role::Branch => kind < 2,
-        Role::Cond => kind < 1,
-        Role::Visited => kind < 1,
-        Role::Argument => kind < 1,
-        Role::Unvisited => kind < 1,
+        Role::Cond => kind == 0,
+        Role::Visited => kind == 0,
+        Role::Argument => kind == 0,
+        Role::Unvisited => kind == 0,
     }
 }
 

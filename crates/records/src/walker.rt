@@ -120,14 +120,25 @@ fn exact(
     requires { ⌜ base + length (now s) < 2 ^ 20 ⌝ }
     ensures { λ r. ⌜ Told (run keeping base (st (now (out .entry)) n) (exact many (recordOf left role) (now (s .entry)))) r (now (out .exit)) ⌝ }
 {
-    if many == 0 {
-        return at_end(s, n);
+    let mut t = s;
+    let mut at = base;
+    let mut count = n;
+    let mut more = many;
+    while 0 < more {
+        let piece = first(t, role, at, left, out, count);
+        match piece {
+            PieceRead::Refused(r) => {
+                return Walk::Refused(r);
+            }
+            PieceRead::To(e, m) => {
+                count = m;
+                at = at + e;
+                t = &t[e..];
+                more = more - 1;
+            }
+        }
     }
-    let piece = first(s, role, base, left, out, n);
-    match piece {
-        PieceRead::Refused(r) => Walk::Refused(r),
-        PieceRead::To(e, m) => exact(&s[e..], many - 1, role, base + e, left, out, m),
-    }
+    at_end(t, count)
 }
 
 // Records of a role to the end.
@@ -418,6 +429,9 @@ fn first(s: &[u8], role: Role, base: usize, left: usize, out: &mut [u32], n: usi
     match head {
         HeadRead::Refused(r) => PieceRead::Refused(r),
         HeadRead::To(kind, e) => {
+            if is_bare(role, kind, e, left) {
+                return PieceRead::To(e, std::num::wrapping_add_usize(n, 4294967296));
+            }
             let w = record(&s[5..e], role, kind, base, left, out, n);
             match w {
                 Walk::Refused(r) => PieceRead::Refused(r),

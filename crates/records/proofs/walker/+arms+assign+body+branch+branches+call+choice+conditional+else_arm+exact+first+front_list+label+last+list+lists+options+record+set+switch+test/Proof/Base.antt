@@ -296,10 +296,10 @@ module _ (t : ℕ) where
   walk-else-uses = (read-flag-reads.Asked, read-flag-reads.Learnt, at-end-reads.Asked, at-end-reads.Learnt, walk-last-below, walk-last.Post)
 
   abbrev pub walk-exact-uses : walk-exact-lts.Claims
-  walk-exact-uses = (at-end-reads.Asked, at-end-reads.Learnt, walk-first-below, walk-first.Post, walk-exact-below, walk-exact.Post)
+  walk-exact-uses = (walk-first-below, walk-first.Post, at-end-reads.Asked, at-end-reads.Learnt)
 
   abbrev pub walk-first-uses : walk-first-lts.Claims
-  walk-first-uses = (read-head-reads.Asked, read-head-reads.Learnt, walk-record-below, walk-record.Post)
+  walk-first-uses = (read-head-reads.Asked, read-head-reads.Learnt, is-bare-reads.Asked, is-bare-reads.Learnt, wrapping-add-usize-reads.Asked, wrapping-add-usize-reads.Learnt, walk-record-below, walk-record.Post)
 
   abbrev pub walk-front-list-uses : walk-front-list-lts.Claims
   walk-front-list-uses = (read-list-reads.Asked, read-list-reads.Learnt, walk-list-below, walk-list.Post)

@@ -1,9 +1,10 @@
--- `exact`: so many expressions, by recursion on what follows the first. Assumes nothing.
-use Prim.Native.Nat.{ℕ, _-_, _≤_}
+-- `exact`: so many expressions, by a loop over what is left. Assumes nothing.
+use Prim.Native.Nat.{ℕ, _+_, _-_, _≤_}
+use mathlib.Core.Path.{_≡_, refl, _∙_}
 use native.Mathlib.Omega.{arith}
 use lib.ListN.{length}
 use Rattle.records.specs.Grammar.{recordOf, exact}
-use Rattle.records.specs.Work.{st, keeping}
+use Rattle.records.specs.Work.{run, st, keeping}
 use Rattle.records.proofs.Readings.{exact-step, exact-end}
 use Rattle.records.proofs.Walking.{told-end}
 use Rattle.records.proofs.PiecesRead.{first-fits, first-on, first-else}
@@ -12,49 +13,70 @@ use Rattle.records.proofs.walker.exact.Reads as walk-exact
 use Rattle.records.proofs.walker.+arms+assign+body+branch+branches+call+choice+conditional+else_arm+exact+first+front_list+label+last+list+lists+options+record+set+switch+test.Lts-exact as lts
 use Rattle.records.proofs.walker.+arms+assign+body+branch+branches+call+choice+conditional+else_arm+exact+first+front_list+label+last+list+lists+options+record+set+switch+test.Proof.Base.{walk-exact-at, walk-exact-uses}
 
+-- what is left stands at `at`, and the run of the whole is the run of what is left
+abbrev Inv : lts.InvT-loop
+Inv s many role base left out₀ n t₀ at₀ count₀ more₀ out t at count more =
+    ((at + length t ≡ base + length s) × (length t ≤ length s) × (length out ≡ length out₀))
+    × (run keeping base (st out₀ n) (exact many (recordOf left role) s) ≡ run keeping at (st out count) (exact more (recordOf left role) t))
+
+abbrev μ : lts.MeasureT-loop
+μ s many role base left out₀ n t₀ at₀ count₀ more₀ out t at count more = more
+
 module _ (t : ℕ) where
-  at-0 : lts.Need-returns (walk-exact-uses t) (walk-exact-at t) walk-exact.Post
-  at-0 c =
-      let a = c .before .before .before .before .args in
-      rw (exact-end (a .many) (recordOf (a .left) (a .role)) (a .s .now) (c .before .if1 .taken)) (told-end keeping (a .base) (st (a .out .now) (a .n)) (a .s .now) (c .at-end .ensures))
+  holds : lts.Need-loop-holds (walk-exact-uses t) (walk-exact-at t) walk-exact.Post Inv μ
+  holds c = (omega arith, refl)
 
-  piece-requires : lts.Need-first-requires (walk-exact-uses t) (walk-exact-at t) walk-exact.Post
-  piece-requires c κs = omega (arith, c .before .before .before .before .pre .0, c .before .before .before .before .pre .1)
+  some : (c : lts.After-known-told2 (walk-exact-uses t) (walk-exact-at t) walk-exact.Post Inv μ) → c .before .before .before .before .before .before .before .before .loop .more ≡ 0 → ⊥
+  some c e = omega (arith, c .before .before .before .before .before .before .before .loop-test .taken)
 
-  refused : lts.Need-returns-2 (walk-exact-uses t) (walk-exact-at t) walk-exact.Post
+  piece-requires : lts.Need-first-requires (walk-exact-uses t) (walk-exact-at t) walk-exact.Post Inv μ
+  piece-requires c κs = omega (arith, c .before .before .loop .inv .0, c .before .before .before .before .before .pre .0, c .before .before .before .before .before .pre .1)
+
+  refused : lts.Need-returns (walk-exact-uses t) (walk-exact-at t) walk-exact.Post Inv μ
   refused c =
-      let a = c .before .before .before .before .before .before .before .before .before .before .args in
+      let a = c .before .before .before .before .before .before .before .before .before .before .before .args in
+      let l = c .before .before .before .before .before .before .before .before .loop in
       let k = c .before .piece .given in
-      rw (exact-step (a .many) (recordOf (a .left) (a .role)) (a .s .now) (c .before .before .before .before .before .before .before .if1 .left)) (first-else keeping (a .base) (st (a .out .now) (a .n)) (recordOf (a .left) (a .role)) (a .s .now) (c .before .before .before .before .before .first .ensures) (exact (a .many - 1) (recordOf (a .left) (a .role))) (k .0 .0) (k .1))
+      rw (l .inv .1, exact-step (l .more) (recordOf (a .left) (a .role)) (l .t .now) (λ e. omega (arith, c .before .before .before .before .before .before .before .loop-test .taken))) (first-else keeping (l .at) (st (l .out) (l .count)) (recordOf (a .left) (a .role)) (l .t .now) (c .before .before .before .before .before .first .ensures) (exact (l .more - 1) (recordOf (a .left) (a .role))) (k .0 .0) (k .1))
 
-  fits : (c : lts.After-known-told2 (walk-exact-uses t) (walk-exact-at t) walk-exact.Post) → (5 ≤ c .before .piece2 .given .0 .0) × (c .before .piece2 .given .0 .0 ≤ length (c .before .before .before .before .before .before .before .before .before .before .args .s .now))
+  fits : (c : lts.After-known-told2 (walk-exact-uses t) (walk-exact-at t) walk-exact.Post Inv μ) → (5 ≤ c .before .piece2 .given .0 .0) × (c .before .piece2 .given .0 .0 ≤ length (c .before .before .before .before .before .before .before .before .loop .t .now))
   fits c =
-      let a = c .before .before .before .before .before .before .before .before .before .before .args in
+      let a = c .before .before .before .before .before .before .before .before .before .before .before .args in
+      let l = c .before .before .before .before .before .before .before .before .loop in
       let k = c .before .piece2 .given in
-      first-fits keeping (a .base) (st (a .out .now) (a .n)) (recordOf (a .left) (a .role)) (a .s .now) (c .before .before .before .before .before .first .ensures) (k .0 .0) (k .0 .1 .0) (k .1)
+      first-fits keeping (l .at) (st (l .out) (l .count)) (recordOf (a .left) (a .role)) (l .t .now) (c .before .before .before .before .before .first .ensures) (k .0 .0) (k .0 .1 .0) (k .1)
 
-  sub-rest : lts.Need-sub-exact (walk-exact-uses t) (walk-exact-at t) walk-exact.Post
-  sub-rest c = fits c .1
+  add-at : lts.Need-add-at (walk-exact-uses t) (walk-exact-at t) walk-exact.Post Inv μ
+  add-at c = omega (arith, fits c, c .before .before .before .before .before .before .before .before .loop .inv .0, c .before .before .before .before .before .before .before .before .before .before .before .pre .1)
 
-  part-rest : lts.Need-part-exact-start (walk-exact-uses t) (walk-exact-at t) walk-exact.Post
-  part-rest c = omega (arith, fits c)
+  sub-t : lts.Need-sub-t (walk-exact-uses t) (walk-exact-at t) walk-exact.Post Inv μ
+  sub-t c = fits c .1
 
-  sub-many : lts.Need-sub-exact-2 (walk-exact-uses t) (walk-exact-at t) walk-exact.Post
-  sub-many c = omega (arith, c .before .before .before .before .before .before .before .before .if1 .left)
+  part-t : lts.Need-part-t-start (walk-exact-uses t) (walk-exact-at t) walk-exact.Post Inv μ
+  part-t c = omega (arith, fits c)
 
-  add-base : lts.Need-add-exact (walk-exact-uses t) (walk-exact-at t) walk-exact.Post
-  add-base c = omega (arith, fits (c .before), c .before .before .before .before .before .before .before .before .before .before .before .pre .1)
+  sub-more : lts.Need-sub-more (walk-exact-uses t) (walk-exact-at t) walk-exact.Post Inv μ
+  sub-more c = omega (arith, c .before .before .before .before .before .before .before .before .loop-test .taken)
 
-  rest-requires : lts.Need-exact-requires (walk-exact-uses t) (walk-exact-at t) walk-exact.Post
-  rest-requires c κs =
-      let start = c .before .before .before .before .before .before .before .before .before .before .before .before in
-      omega (arith, fits (c .before .before), c .before .exact-arg .given .2, start .pre .0, start .pre .1)
+  less : lts.Need-loop-less (walk-exact-uses t) (walk-exact-at t) walk-exact.Post Inv μ
+  less c = omega (arith, c .before .before .before .before .before .before .before .before .loop-test .taken)
 
-  rest : lts.Need-returns-3 (walk-exact-uses t) (walk-exact-at t) walk-exact.Post
-  rest c =
-      let a = c .before .before .before .before .before .before .before .before .before .before .before .before .before .before .before .args in
-      let k = c .before .before .before .before .before .before .piece2 .given in
-      rw (exact-step (a .many) (recordOf (a .left) (a .role)) (a .s .now) (c .before .before .before .before .before .before .before .before .before .before .before .before .if1 .left), first-on keeping (a .base) (st (a .out .now) (a .n)) (recordOf (a .left) (a .role)) (a .s .now) (c .before .before .before .before .before .before .before .before .before .before .first .ensures) (exact (a .many - 1) (recordOf (a .left) (a .role))) (k .0 .0) (k .0 .1 .0) (k .1)) (c .before .before .exact .ensures)
+  again : lts.Need-loop-again (walk-exact-uses t) (walk-exact-at t) walk-exact.Post Inv μ
+  again c =
+      let a = c .before .before .before .before .before .before .before .before .before .before .before .before .args in
+      let l = c .before .before .before .before .before .before .before .before .before .loop in
+      let piece = c .before .before .before .before .before .before .first in
+      let k = c .before .before .piece2 .given in (
+        omega (arith, fits (c .before), c .t .given .2, l .inv .0, piece .kept),
+        l .inv .1 ∙ rw (exact-step (l .more) (recordOf (a .left) (a .role)) (l .t .now) (some (c .before))) (first-on keeping (l .at) (st (l .out) (l .count)) (recordOf (a .left) (a .role)) (l .t .now) (piece .ensures) (exact (l .more - 1) (recordOf (a .left) (a .role))) (k .0 .0) (k .0 .1 .0) (k .1)),
+      )
+
+  finished : lts.Need-returns-2 (walk-exact-uses t) (walk-exact-at t) walk-exact.Post Inv μ
+  finished c =
+      let a = c .before .before .before .before .before .args in
+      let l = c .before .before .loop in
+      let none : l .more ≡ 0 = omega (arith, c .before .loop-test .left) in
+      rw (l .inv .1, exact-end (l .more) (recordOf (a .left) (a .role)) (l .t .now) none) (told-end keeping (l .at) (st (l .out) (l .count)) (l .t .now) (c .at-end .ensures))
 
   pub ok : {M : Type 1} → lts.Closed (walk-exact-uses t) (walk-exact-at t) walk-exact.Post M
-  ok = lts.spec (walk-exact-uses t) (walk-exact-at t) walk-exact.Post (λ c κs. search needs) at-0 piece-requires (λ c. search needs) (λ c. search needs) sub-rest part-rest (λ c. search needs) sub-many add-base rest-requires (λ c. search needs) refused (λ c. search needs) rest
+  ok = lts.spec (walk-exact-uses t) (walk-exact-at t) walk-exact.Post Inv μ holds piece-requires (λ c. search needs) (λ c. search needs) refused (λ c. search needs) add-at sub-t part-t (λ c. search needs) sub-more less again (λ c κs. search needs) (λ c. search needs) finished

@@ -6,6 +6,7 @@ use lib.ListN.{length}
 use Rattle.fields.proofs.Laws.{head-within}
 use Rattle.records.specs.Grammar.{recordOf, front, nothing}
 use Rattle.records.specs.Work.{run, st, keeping, headEnd}
+use Rattle.records.proofs.Bare.{bare-answers}
 use Rattle.records.proofs.Walking.{front-refused}
 use Rattle.records.proofs.PiecesRead.{piece-answers-refused, first-answers, first-answers-refused}
 use borrow.Author.Needs.{needs}
@@ -17,37 +18,48 @@ module _ (t : ℕ) where
   fits : (c : lts.After-known-told2 (walk-first-uses t) (walk-first-at t) walk-first.Post) → (5 ≤ c .before .head2 .given .0 .1 .0) × (c .before .head2 .given .0 .1 .0 ≤ length (c .before .before .before .before .before .before .args .s .now))
   fits c = let k = c .before .head2 .given in head-within (c .before .before .before .before .before .before .args .s .now) (k .0 .0) (k .0 .1 .0) (c .before .before .before .read-head .ensures) (k .1)
 
-  refused : lts.Need-returns (walk-first-uses t) (walk-first-at t) walk-first.Post
+  bare : lts.Need-returns (walk-first-uses t) (walk-first-at t) walk-first.Post
+  bare c =
+      let known = c .before .before .before in
+      let a = known .before .before .before .before .before .before .args in
+      let k = known .before .head2 .given in
+      bare-answers (a .base) (a .out .now) (a .n) (c .wrapping-add-usize .ensures) (a .left) (a .role) (a .s .now) (k .0 .0) (k .0 .1 .0) (c .before .before .is-bare .ensures (c .before .if1 .taken)) (known .before .before .before .read-head .ensures) (k .1)
+
+  refused : lts.Need-returns-2 (walk-first-uses t) (walk-first-at t) walk-first.Post
   refused c =
       let a = c .before .before .before .before .before .before .args in
       let k = c .before .head .given in
       piece-answers-refused (run keeping (a .base) (st (a .out .now) (a .n)) (front (recordOf (a .left) (a .role)) nothing (a .s .now))) (headEnd (a .s .now)) (front-refused keeping (a .base) (st (a .out .now) (a .n)) (recordOf (a .left) (a .role)) nothing (a .s .now) (k .0 .0) (c .before .before .before .read-head .ensures) (k .1)) (k .0 .0) refl refl
 
   sub-piece : lts.Need-sub-record (walk-first-uses t) (walk-first-at t) walk-first.Post
-  sub-piece c = fits c .0
+  sub-piece c = fits (c .before .before) .0
 
   part-start : lts.Need-part-record-start (walk-first-uses t) (walk-first-at t) walk-first.Post
-  part-start c = omega (arith, fits c)
+  part-start c = omega (arith, fits (c .before .before))
 
   part-end : lts.Need-part-record-end (walk-first-uses t) (walk-first-at t) walk-first.Post
-  part-end c = omega (arith, fits c)
+  part-end c = omega (arith, fits (c .before .before))
 
   piece-requires : lts.Need-record-requires (walk-first-uses t) (walk-first-at t) walk-first.Post
-  piece-requires c κs = omega (arith, fits (c .before .before), c .before .record-arg .given .2, c .before .before .before .before .before .before .before .before .pre .0, c .before .before .before .before .before .before .before .before .pre .1)
+  piece-requires c κs =
+      let known = c .before .before .before .before in
+      omega (arith, fits known, c .before .record-arg .given .2, known .before .before .before .before .before .before .pre .0, known .before .before .before .before .before .before .pre .1)
 
-  inside-refused : lts.Need-returns-2 (walk-first-uses t) (walk-first-at t) walk-first.Post
+  inside-refused : lts.Need-returns-3 (walk-first-uses t) (walk-first-at t) walk-first.Post
   inside-refused c =
-      let a = c .before .before .before .before .before .before .before .before .before .before .before .before .before .before .args in
-      let k = c .before .before .before .before .before .before .before .before .before .head2 .given in
+      let known = c .before .before .before .before .before .before .before .before .before .before in
+      let a = known .before .before .before .before .before .before .args in
+      let k = known .before .head2 .given in
       let w = c .before .w .given in
-      first-answers-refused keeping (a .base) (st (a .out .now) (a .n)) (recordOf (a .left) (a .role)) (a .s .now) (k .0 .0) (k .0 .1 .0) (c .before .before .before .before .before .before .before .before .before .before .before .read-head .ensures) (k .1) (c .before .before .before .before .before .record .ensures) (w .0 .0) (w .1)
+      first-answers-refused keeping (a .base) (st (a .out .now) (a .n)) (recordOf (a .left) (a .role)) (a .s .now) (k .0 .0) (k .0 .1 .0) (known .before .before .before .read-head .ensures) (k .1) (c .before .before .before .before .before .record .ensures) (w .0 .0) (w .1)
 
-  read : lts.Need-returns-3 (walk-first-uses t) (walk-first-at t) walk-first.Post
+  read : lts.Need-returns-4 (walk-first-uses t) (walk-first-at t) walk-first.Post
   read c =
-      let a = c .before .before .before .before .before .before .before .before .before .before .before .before .before .before .args in
-      let k = c .before .before .before .before .before .before .before .before .before .head2 .given in
+      let known = c .before .before .before .before .before .before .before .before .before .before in
+      let a = known .before .before .before .before .before .before .args in
+      let k = known .before .head2 .given in
       let w = c .before .w2 .given in
-      first-answers keeping (a .base) (st (a .out .now) (a .n)) (recordOf (a .left) (a .role)) (a .s .now) (k .0 .0) (k .0 .1 .0) (c .before .before .before .before .before .before .before .before .before .before .before .read-head .ensures) (k .1) (c .before .before .before .before .before .record .ensures) (w .0 .0) (w .1)
+      first-answers keeping (a .base) (st (a .out .now) (a .n)) (recordOf (a .left) (a .role)) (a .s .now) (k .0 .0) (k .0 .1 .0) (known .before .before .before .read-head .ensures) (k .1) (c .before .before .before .before .before .record .ensures) (w .0 .0) (w .1)
 
   pub ok : {M : Type 1} → lts.Closed (walk-first-uses t) (walk-first-at t) walk-first.Post M
-  ok = lts.spec (walk-first-uses t) (walk-first-at t) walk-first.Post (λ c κs. search needs) (λ c. search needs) (λ c. search needs) sub-piece part-start part-end piece-requires (λ c. search needs) (λ c. search needs) refused (λ c. search needs) inside-refused (λ c. search needs) read
+  ok = lts.spec (walk-first-uses t) (walk-first-at t) walk-first.Post (λ c κs. search needs) (λ c. search needs) (λ c. search needs) (λ c κs. search needs) (λ c κs. search needs) bare sub-piece part-start part-end piece-requires (λ c. search needs) (λ c. search needs) refused (λ c. search needs) inside-refused (λ c. search needs) read
