@@ -1,38 +1,28 @@
 -- A body is the run of kept numbers with from ≤ place < to. Assumes nothing.
-use mathlib.Core.Path.{_≡_, refl, sym, ap, _∙_}
+use mathlib.Core.Path.{_≡_, refl, sym, _∙_}
 use mathlib.Core.Bool.{Bool, true, false, not, _&&_, and-false, true≢false}
 use mathlib.Core.List.{List, [], _∷_, _++_, append-nil}
 use mathlib.Core.Logic.{_⊎_, inl, inr}
-use Prim.Native.Nat.{ℕ, suc, _+_, _-_, _≤_, _<_}
+use Prim.Native.Nat.{ℕ, suc, _+_, _≤_, _<_}
 use native.Mathlib.Omega.{arith}
 use lib.Dec.{ltb}
-use lib.ListN.{length, take, drop, length-take, length-drop}
-use lib.Seq.{drop-drop}
+use lib.ListN.{length}
 use borrow.Author.Tests.{ltb-true, ltb-false, lt-ltb, le-ltb}
-use Rattle.fields.specs.Bytes.{Span, pick, listOf}
-use Rattle.fields.proofs.Laws.{list-fits}
+use Rattle.fields.specs.Bytes.{pick}
 use Rattle.names.specs.Words.{each}
-use Rattle.records.specs.Trace.{Trace, done, refuse, emit, andThen, shift, met, Ending, well, refused, ends}
-use Rattle.records.specs.Grammar.{Reading, repeat, nodes}
+use Rattle.records.specs.Trace.{Trace, done, refuse, emit, met, Ending, well, refused, ends}
+use Rattle.records.specs.Grammar.{Reading, nodes}
 use Rattle.records.proofs.Places.{Placed, Places, nodes-places}
-use Rattle.records.proofs.Readings.{repeat-step}
 use Rattle.story.specs.declared.Sections.{Sections}
 use Rattle.records.specs.Items.{plain, is, Item, itemAs, itemOf, itemsAs, itemsIn}
-use Rattle.story.specs.declared.Heading.{Heading}
-use Rattle.story.specs.declared.HeadingRead.the-variants as heading
-use Rattle.story.specs.Headings.{headingOf}
-use Rattle.story.specs.Flows.{pieceAt, piece, flow, flows, flowsIn, flowIn, stitch, stitches, stitchIn, piecesIn, part}
+use Rattle.story.specs.Flows.{flows, flowsIn, stitch, stitches, stitchIn, piecesIn, part}
 use Rattle.story.specs.File.{storyIn, InOrder}
-use Rattle.story.proofs.Reaches.{heading-laid}
-use Rattle.story.proofs.Readable.{flow-titled, titled-well}
-use Rattle.story.proofs.Unfolding.{pieces-in-step, titled-in, flow-in}
 use Rattle.story.proofs.Parts.{part-length}
 use Rattle.records.specs.Numbers.{numberOf, keptOf, placeIn, between}
 use Rattle.records.specs.Work.{itemsOf}
 use Rattle.story.specs.Story.{stitchItems, flowItems, storyItems}
 use Rattle.story.proofs.Unpacked.{place-back}
-use Rattle.story.proofs.Pieces.{piece-local}
-use Rattle.story.proofs.StoryItems.{both-well, shift-well, pieces-items, stitch-items, flows-items}
+use Rattle.story.proofs.StoryItems.{pieces-items, stitch-items, flows-items}
 use Rattle.story.proofs.Standing.{pieces-places, stitch-places, flows-places}
 
 -- 1. Kept numbers of two lists, and of items that lie in a range
@@ -134,48 +124,7 @@ module _ (from to : ℕ) where
   pub between-second : (lo : ℕ) {mid : ℕ} (l m : List Item) → Lies lo mid l → mid ≤ 1048576 → mid ≤ from → between from to (keptOf (l ++ m)) ≡ between from to (keptOf m)
   between-second lo l m h low p = rw (kept-append l m, between-append (keptOf l) (keptOf m), none-between l h low (inl p))
 
--- 2. Pieces: those with places before the first one's end are its own, and the others are those of what follows it
-
-module _ {A : Type 0} (g : Reading) (f : ℕ → List ℕ → A) (items : A → List Item) (one : (b : ℕ) (s : List ℕ) → ends (g s) ≡ well → itemsOf (b + 4) (g s) ≡ items (f b s)) (places : Places g)
-    (at n : ℕ) (t : List ℕ) (long : listOf t ≡ Span.Bytes n) (good : ends (repeat (piece g) t) ≡ well) (low : at + length t ≤ 1048576) where
-  abbrev first : List ℕ
-  first = take n (drop 4 t)
-
-  abbrev rest : List ℕ
-  rest = drop (4 + n) t
-
-  fits : 4 + n ≤ length t
-  fits = list-fits t n refl long
-
-  apart : repeat (piece g) t ≡ andThen (shift 4 (g first)) (shift (4 + n) (repeat (piece g) rest))
-  unfolding pieceAt
-  apart = repeat-step (piece g) (piece-local g) t (omega (arith, fits)) ∙ rw long
-
-  both : (ends (shift 4 (g first)) ≡ well) × (ends (shift (4 + n) (repeat (piece g) rest)) ≡ well)
-  both = both-well (shift 4 (g first)) (shift (4 + n) (repeat (piece g) rest)) (sym (ap ends apart) ∙ good)
-
-  pub first-good : ends (g first) ≡ well
-  first-good = shift-well 4 (g first) (both .0)
-
-  pub rest-good : ends (repeat (piece g) rest) ≡ well
-  rest-good = shift-well (4 + n) (repeat (piece g) rest) (both .1)
-
-  first-lies : Lies at (at + (4 + n)) (items (f at first))
-  first-lies = rw (← one at first first-good) (lies-wider (itemsOf (at + 4) (g first)) (omega arith) (omega (arith, length-take n (drop 4 t))) (reading-lies g places (at + 4) first))
-
-  rest-lies : Lies (at + (4 + n)) (at + length t) (each items (piecesIn f (at + (4 + n)) rest))
-  rest-lies =
-      rw (← pieces-items g f items one (at + (4 + n)) rest rest-good)
-      (lies-wider (itemsOf (at + (4 + n)) (repeat (piece g) rest)) (omega arith) (omega (arith, fits, length-drop (4 + n) t)) (reading-lies (repeat (piece g)) (pieces-places g places) (at + (4 + n)) rest))
-
-  pub first-run : (from to : ℕ) → to ≤ at + (4 + n) → between from to (keptOf (each items (piecesIn f at t))) ≡ between from to (keptOf (items (f at first)))
-  first-run from to p = rw (pieces-in-step f at n t refl long) (between-first from to (items (f at first)) (each items (piecesIn f (at + (4 + n)) rest)) rest-lies low p)
-
-  pub later-run : (from to : ℕ) → at + (4 + n) ≤ from → between from to (keptOf (each items (piecesIn f at t))) ≡ between from to (keptOf (each items (piecesIn f (at + (4 + n)) rest)))
-  later-run from to p =
-      rw (pieces-in-step f at n t refl long) (between-second from to at (items (f at first)) (each items (piecesIn f (at + (4 + n)) rest)) first-lies (omega (arith, fits)) p)
-
--- 3. A list of nodes
+-- 2. A list of nodes
 
 pub items-lie : (b : ℕ) (s : List ℕ) → Lies b (b + length s) (itemsIn b s)
 unfolding itemsIn itemsAs Lies
@@ -199,65 +148,7 @@ module _ (at end : ℕ) (s : List ℕ) (ordered : at ≤ end) (within : end ≤ 
   pub flows-lie-there : ends (flows (part at end s)) ≡ well → Lies at end (each flowItems (flowsIn at (part at end s)))
   flows-lie-there good = rw (← flows-items at (part at end s) good) (part-lies flows flows-places)
 
--- 4. A stitch and a flow, whose bytes after the length are s, and which begin at the place
-
-module _ (at : ℕ) (s : List ℕ) (h : Heading) (low : at + (4 + length s) ≤ 1048576) where
-  -- a stitch: its list
-  pub stitch-run : headingOf s ≡ heading.At h → between (at + 4 + h .nodes) (at + 4 + h .end) (keptOf (stitchItems (stitchIn at s))) ≡ keptOf (stitchItems (stitchIn at s))
-  unfolding stitchIn
-  stitch-run told =
-      let laid = heading-laid s h refl told in
-      let own = part (h .nodes) (h .end) s in
-      let e = part-length (h .nodes) (h .end) s (laid .within) in
-      rw (titled-in (at + 4) s h refl told)
-      (all-between (at + 4 + h .nodes) (at + 4 + h .end) (itemsIn (at + 4 + h .nodes) own) (items-lie (at + 4 + h .nodes) own) (omega (arith, e, laid)) (omega arith) (omega (arith, e, laid)))
-
-  -- a flow: its own list, and its stitches
-  module _ (good : ends (flow s) ≡ well) (told : headingOf (drop 1 s) ≡ heading.At h) where
-    abbrev own-bytes : List ℕ
-    own-bytes = part (h .nodes) (h .end) (drop 1 s)
-
-    abbrev stitch-bytes : List ℕ
-    stitch-bytes = drop (1 + h .end) s
-
-    abbrev its-stitches : List Item
-    its-stitches = each stitchItems (piecesIn stitchIn (at + (5 + h .end)) stitch-bytes)
-
-    flow-parts : flowItems (flowIn at s) ≡ itemsIn (at + 5 + h .nodes) own-bytes ++ its-stitches
-    unfolding flowItems
-    flow-parts = rw (flow-in at s h refl told)
-
-    long : 1 ≤ length s
-    long = flow-titled s good .0
-
-    own-length : (length own-bytes ≡ h .end - h .nodes) × (h .nodes ≤ h .end) × (1 + h .end ≤ length s)
-    own-length =
-        let laid = heading-laid (drop 1 s) h refl told in
-        (part-length (h .nodes) (h .end) (drop 1 s) (laid .within), laid .nodes, omega (arith, laid, length-drop 1 s, long))
-
-    own-lies : Lies (at + 5 + h .nodes) (at + 5 + h .end) (itemsIn (at + 5 + h .nodes) own-bytes)
-    own-lies = lies-wider (itemsIn (at + 5 + h .nodes) own-bytes) (omega arith) (omega (arith, own-length)) (items-lie (at + 5 + h .nodes) own-bytes)
-
-    stitches-good : ends (stitches stitch-bytes) ≡ well
-    stitches-good = rw (drop-drop (h .end) 1 s) at (titled-well stitches (drop 1 s) (flow-titled s good .1) h refl told .rest)
-
-    stitches-lie : Lies (at + (5 + h .end)) (at + (4 + length s)) its-stitches
-    stitches-lie =
-        rw (← pieces-items stitch stitchIn stitchItems stitch-items (at + (5 + h .end)) stitch-bytes stitches-good)
-        (lies-wider (itemsOf (at + (5 + h .end)) (stitches stitch-bytes)) (omega arith) (omega (arith, own-length, length-drop (1 + h .end) s)) (reading-lies stitches (pieces-places stitch stitch-places) (at + (5 + h .end)) stitch-bytes))
-
-    pub own-run : between (at + 5 + h .nodes) (at + 5 + h .end) (keptOf (flowItems (flowIn at s))) ≡ keptOf (flowIn at s .body)
-    own-run =
-        rw (flow-parts, flow-in at s h refl told)
-        (between-first (at + 5 + h .nodes) (at + 5 + h .end) (itemsIn (at + 5 + h .nodes) own-bytes) its-stitches stitches-lie low (omega arith)
-        ∙ all-between (at + 5 + h .nodes) (at + 5 + h .end) (itemsIn (at + 5 + h .nodes) own-bytes) own-lies (omega (arith, own-length)) (omega arith) (omega arith))
-
-    pub stitches-run : (from to : ℕ) → at + 5 + h .end ≤ from → between from to (keptOf (flowItems (flowIn at s))) ≡ between from to (keptOf (each stitchItems (flowIn at s .stitches)))
-    stitches-run from to p =
-        rw (flow-parts, flow-in at s h refl told)
-        (between-second from to (at + 5 + h .nodes) (itemsIn (at + 5 + h .nodes) own-bytes) its-stitches own-lies (omega (arith, own-length)) p)
-
--- 5. A file
+-- 3. A file
 
 module _ (c : Sections) (s : List ℕ) (o : InOrder c s) (good : ends (flows (part (c .flows) (c .end) s)) ≡ well) where
   flows-lie : Lies (c .flows) (c .end) (each flowItems (storyIn c s .flows))

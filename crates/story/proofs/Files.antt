@@ -48,7 +48,7 @@ module _ (file : List ℕ) (c : Sections) (e : readOf file ≡ opened.At c) wher
   pub root-is-run : between (c .root) (c .flows) (keptOf (storyItems (storyIn c file))) ≡ keptOf (storyIn c file .root)
   root-is-run = BodyRuns.root-run c file in-order (readable file c refl e .flows)
 
-  -- the others are those of the flows: `first-run` and `later-run` go from flow to flow, `own-run` and `stitches-run` into one
+  -- the others are those of the flows
   pub flows-are-run : (from to : ℕ) → c .flows ≤ from → between from to (keptOf (storyItems (storyIn c file))) ≡ between from to (keptOf (each flowItems (storyIn c file .flows)))
   flows-are-run = BodyRuns.flows-run c file in-order (readable file c refl e .flows)
 
