@@ -1,5 +1,5 @@
 -- How a reading made of two ends. Assumes nothing.
-use mathlib.Core.Path.{_≡_, refl}
+use mathlib.Core.Path.{_≡_, refl, sym, _∙_}
 use Prim.Native.Nat.{ℕ}
 use native.Mathlib.Omega.{arith}
 use Rattle.records.specs.Trace.{Trace, done, refuse, emit, andThen, shift, Ending, well, refused, ends}
@@ -31,3 +31,10 @@ pub second-well : (a b : Ending) → thenEnds a b ≡ well → b ≡ well
 unfolding thenEnds
 second-well well b e = e
 second-well (refused r) b e = let z : _≡_ {A = ℕ} 0 1 = cc in absurd (omega arith)
+
+-- both parts of a trace that ends well
+pub both-well : (t u : Trace) → ends (andThen t u) ≡ well → (ends t ≡ well) × (ends u ≡ well)
+both-well t u h = let e = sym (ends-then t u) ∙ h in (first-well (ends t) (ends u) e, second-well (ends t) (ends u) e)
+
+pub shift-well : (a : ℕ) (t : Trace) → ends (shift a t) ≡ well → ends t ≡ well
+shift-well a t h = sym (ends-shift a t) ∙ h

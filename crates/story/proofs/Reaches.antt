@@ -1,31 +1,24 @@
--- How far names, lists and headings reach: within the bytes, and as the grammar reads them. Assumes nothing.
+-- How far names, lists and headings reach: within the bytes, and as the code learns of it. Assumes nothing.
 use mathlib.Core.Path.{_≡_, refl, sym, _∙_}
-use mathlib.Core.List.{List, [], _∷_}
+use mathlib.Core.List.{List}
 use mathlib.Core.Bool.{Bool, true, false}
 use Prim.Native.Nat.{ℕ, zero, suc, _+_, _-_, _≤_, _<_}
-use native.Mathlib.Nat.{add-assoc, add-sub-cancel, add-sub-cancel-left}
+use native.Mathlib.Nat.{add-sub-cancel, add-sub-cancel-left}
 use native.Mathlib.Numerals.{sub-one}
 use native.Mathlib.Omega.{arith}
 use lib.Dec.{ltb}
 use lib.ListN.{length, getD, take, drop, length-drop}
-use lib.Seq.{drop-drop, drop-cons}
-use borrow.Author.Tests.{ltb-true, ltb-false}
+use borrow.Author.Tests.{ltb-true}
 use Rattle.fields.specs.declared.Refusal.{Refusal}
 use Rattle.fields.specs.declared.Refusal.the-variants.{Short}
-use Rattle.fields.specs.declared.Role.the-variants.{Node}
 use Rattle.fields.specs.declared.Reach.{Reach}
 use Rattle.fields.specs.declared.Reach.the-variants as reach
 use Rattle.fields.specs.Bytes.{Span, pick, listOf, nameOf, spanReach}
 use Rattle.fields.proofs.Laws.{name-fits, list-fits, span-to, span-refused, to-end}
-use Rattle.records.specs.Trace.{shift, Ending, well, refused, ends}
-use Rattle.records.specs.Grammar.{Reading, Reader, namedAt, listedAt, listed, recordOf, nodes, records}
 use Rattle.story.specs.declared.Heading.{Heading}
 use Rattle.story.specs.declared.HeadingRead.{HeadingRead}
 use Rattle.story.specs.declared.HeadingRead.the-variants as heading
 use Rattle.story.specs.Headings.{reachAt, namesReach, countedReach, listAt, marksAt, paramsAt, nameThen, headingOf}
-use Rattle.story.specs.Flows.{namesThen, counted, titled, part}
-use Rattle.story.specs.Endings.{reachOf, titledReachAt, titledReach}
-use Rattle.story.proofs.Endings.{thenEnds, ends-then, ends-shift}
 
 -- 1. Within the bytes
 
@@ -110,39 +103,7 @@ module _ (s : List ℕ) (h : Heading) where
   unfolding headingOf
   heading-laid p q = name-laid (nameOf s) refl (sym p ∙ q)
 
--- 2. As the grammar reads them
-
--- where something ends that reaches so far and is followed by k
-unfoldable pub reachEnds : Reach → Reading → List ℕ → Ending
-reachEnds (reach.To e) k s = ends (k (drop e s))
-reachEnds (reach.Refused r) k s = refused r
-
-names-ends : (n : ℕ) (k : Reading) (s : List ℕ) (at : ℕ) → ends (namesThen n k (drop at s)) ≡ reachEnds (namesReach s n at) k s
-unfolding namesThen namesReach reachEnds reachAt namedAt ends
-names-ends zero k s at = refl
-names-ends (suc n) k s at = by-name (nameOf (drop at s)) (λ j. names-ends n k s (at + (1 + j)))
-  where
-    by-name : (r : Span) → ((j : ℕ) → ends (namesThen n k (drop (at + (1 + j)) s)) ≡ reachEnds (namesReach s n (at + (1 + j))) k s) → ends (namedAt r (namesThen n k) (drop at s)) ≡ reachEnds (reachAt r (namesReach s n) at) k s
-    by-name (Span.Bytes j) more = rw (ends-shift (1 + j) (namesThen n k (drop (1 + j) (drop at s))), drop-drop (1 + j) at s) (more j)
-    by-name (Span.Refused r) more = refl
-
-counted-ends : (k : Reading) (s : List ℕ) (at : ℕ) → ends (counted k (drop at s)) ≡ reachEnds (countedReach s at) k s
-unfolding countedReach counted reachEnds ends
-counted-ends k s at = by-test (ltb at (length s)) refl
-  where
-    one-on : at + 1 ≡ suc at
-    one-on = omega arith
-
-    by-test : (i : Bool) → ltb at (length s) ≡ i → ends (counted k (drop at s)) ≡ reachEnds (pick i (namesReach s (getD s at 0) (at + 1)) (reach.Refused Short)) k s
-    by-test true t =
-        rw (drop-cons s at 0 (ltb-true at (length s) t), ends-shift 1 (namesThen (getD s at 0) k (drop (suc at) s)), one-on) (names-ends (getD s at 0) k s (suc at))
-    by-test false t = rw (none (drop at s) (omega (arith, length-drop at s, ltb-false at (length s) t)))
-      where
-        none : (u : List ℕ) → length u ≤ 0 → u ≡ []
-        none [] h = refl
-        none (x ∷ u) h = absurd (omega arith)
-
--- 3. One name further
+-- 2. One name further
 
 pub reach-on : (s : List ℕ) (many at to : ℕ) {r : Reach} → 0 < many → r ≡ spanReach 1 (nameOf (take (length s - at) (drop at s))) → r ≡ reach.To to
     → namesReach s many at ≡ namesReach s (many - 1) (at + to)
@@ -164,7 +125,7 @@ unfolding namesReach
 reach-end s zero at h = refl
 reach-end s (suc many) at h = absurd (omega arith)
 
--- 4. A heading's name and its list, as the code learns of them
+-- 3. A heading's name and its list, as the code learns of them
 
 module _ (x : Span) {r : Reach} where
   pub name-then : (s : List ℕ) (to : ℕ) → r ≡ spanReach 1 x → r ≡ reach.To to → nameThen x s ≡ paramsAt to (countedReach s to) s
@@ -188,45 +149,3 @@ module _ (x : Span) {r : Reach} where
   pub list-at-refused : (params marks list : ℕ) (y : Refusal) → r ≡ spanReach 4 x → r ≡ reach.Refused y → heading.Refused y ≡ listAt params marks list x
   unfolding listAt
   list-at-refused params marks list y e q = rw (span-refused 4 x e y q)
-
--- 5. A flow's or a stitch's title
-
--- the records of its node list
-abbrev body : Reader
-body = recordOf 64 Node
-
-list-ends : (k : Reading) (s : List ℕ) (params marks list : ℕ) (r : Span) → r ≡ listOf (drop list s)
-    → ends (listedAt r body k (drop list s)) ≡ reachEnds (titledReachAt (listAt params marks list r) s) k s
-unfolding listedAt listAt titledReachAt reachEnds reachOf thenEnds nodes part ends
-list-ends k s params marks list (Span.Bytes n) p =
-    rw (ends-then (shift 4 (records body (take n (drop 4 (drop list s))))) (shift (4 + n) (k (drop (4 + n) (drop list s)))), ends-shift 4 (records body (take n (drop 4 (drop list s)))), ends-shift (4 + n) (k (drop (4 + n) (drop list s))), drop-drop 4 list s, drop-drop (4 + n) list s, ← add-assoc list 4 n, same-part)
-    (by-end (ends (nodes (part (list + 4) (list + 4 + n) s))))
-  where
-    same-part : records body (take n (drop (list + 4) s)) ≡ nodes (part (list + 4) (list + 4 + n) s)
-    same-part = rw (add-sub-cancel-left (list + 4) n)
-
-    by-end : (e : Ending) → thenEnds e (ends (k (drop (list + 4 + n) s))) ≡ reachEnds (reachOf e (list + 4 + n)) k s
-    by-end well = refl
-    by-end (refused x) = refl
-list-ends k s params marks list (Span.Refused x) p = refl
-
-marks-ends : (k : Reading) (s : List ℕ) (params marks : ℕ) (r : Reach) → reachEnds r (listed body k) s ≡ reachEnds (titledReachAt (marksAt params marks r s) s) k s
-unfolding marksAt reachEnds titledReachAt
-marks-ends k s params marks (reach.To list) = list-ends k s params marks list (listOf (drop list s)) refl
-marks-ends k s params marks (reach.Refused x) = refl
-
-params-ends : (k : Reading) (s : List ℕ) (params : ℕ) (r : Reach) → reachEnds r (counted (listed body k)) s ≡ reachEnds (titledReachAt (paramsAt params r s) s) k s
-unfolding paramsAt reachEnds titledReachAt
-params-ends k s params (reach.To marks) = counted-ends (listed body k) s marks ∙ marks-ends k s params marks (countedReach s marks)
-params-ends k s params (reach.Refused x) = refl
-
-name-ends : (k : Reading) (s : List ℕ) (r : Span) → ends (namedAt r (counted (counted (listed body k))) s) ≡ reachEnds (titledReachAt (nameThen r s) s) k s
-unfolding namedAt nameThen reachEnds titledReachAt ends
-name-ends k s (Span.Bytes n) =
-    ends-shift (1 + n) (counted (counted (listed body k)) (drop (1 + n) s)) ∙ counted-ends (counted (listed body k)) s (1 + n) ∙ params-ends k s (1 + n) (countedReach s (1 + n))
-name-ends k s (Span.Refused x) = refl
-
--- a title ends as what reaches so far and is followed by k
-pub titled-ends : (k : Reading) (s : List ℕ) → ends (titled k s) ≡ reachEnds (titledReach s) k s
-unfolding titled titledReach headingOf
-titled-ends k s = name-ends k s (nameOf s)

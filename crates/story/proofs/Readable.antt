@@ -9,7 +9,7 @@ use Rattle.fields.specs.declared.FlagRead.{FlagRead}
 use Rattle.fields.specs.declared.FlagRead.the-variants as flag
 use Rattle.fields.specs.Bytes.{Span, listOf, nameOf, flagOf}
 use Rattle.fields.proofs.Laws.{list-fits, name-fits, off-fits, on-fits}
-use Rattle.records.specs.Trace.{Ending, well, refused, ends}
+use Rattle.records.specs.Trace.{shift, Ending, well, refused, ends}
 use Rattle.records.specs.Grammar.{Reading, repeat, ending, nodes}
 use Rattle.story.specs.declared.Sections.{Sections}
 use Rattle.story.specs.declared.Opened.{Opened}
@@ -20,9 +20,9 @@ use Rattle.story.specs.declared.HeadingRead.the-variants as heading
 use Rattle.story.specs.Headings.{headingOf}
 use Rattle.story.specs.Flows.{names, titled, piece, stitch, flow, flows, part, stitches}
 use Rattle.story.specs.File.{InOrder, openedOf, sectionsRead, readEnded, readAt, readOf}
-use Rattle.story.specs.Endings.{reachOf, titledReachAt, titledReach}
-use Rattle.story.proofs.Endings.{first-well, second-well}
-use Rattle.story.proofs.Reaches.{Laid, heading-laid, reachEnds, titled-ends}
+use Rattle.story.proofs.Endings.{first-well, second-well, both-well, shift-well}
+use Rattle.story.proofs.Reaches.{Laid, heading-laid}
+use Rattle.story.proofs.Titled.{titleTrace, titled-trace}
 use Rattle.story.proofs.Pieces.{names-on, names-refused, pieces-step, pieces-end-refused}
 use Rattle.story.proofs.Titles.{flagEnds, flow-ends}
 use Rattle.story.proofs.Opening.{opened-in-order, sections-end}
@@ -114,21 +114,21 @@ pub record TitledWell (k : Reading) (h : Heading) (s : List ℕ) : Type 0 where
   pub rest : ends (k (drop (h .end) s)) ≡ well
 
 module _ (k : Reading) (s : List ℕ) (good : ends (titled k s) ≡ well) where
-  reached : (h : Heading) (e : Ending) → reachEnds (reachOf e (h .end)) k s ≡ well → (e ≡ well) × (ends (k (drop (h .end) s)) ≡ well)
-  unfolding reachOf reachEnds
-  reached h well p = (refl, p)
-  reached h (refused x) p = let z : _≡_ {A = ℕ} 0 1 = cc in absurd (omega arith)
+  traced : ends (titleTrace (headingOf s) k s) ≡ well
+  traced = sym (ap ends (titled-trace k s)) ∙ good
 
   pub titled-well : (h : Heading) {r : HeadingRead} → r ≡ headingOf s → r ≡ heading.At h → TitledWell k h s
-  unfolding titledReach titledReachAt
+  unfolding titleTrace
   titled-well h p q =
       let to = sym p ∙ q in
-      let d = reached h (ends (nodes (part (h .nodes) (h .end) s))) (rw (titled-ends k s, to) at good) in
-      record { told = to; laid = heading-laid s h p q; nodes = d .0; rest = d .1 }
+      let inside = nodes (part (h .nodes) (h .end) s) in
+      let after = k (drop (h .end) s) in
+      let d = both-well (shift (h .nodes) inside) (shift (h .end) after) (rw to at traced) in
+      record { told = to; laid = heading-laid s h p q; nodes = shift-well (h .nodes) inside (d .0); rest = shift-well (h .end) after (d .1) }
 
   pub titled-never-refused : {x : Refusal} {r : HeadingRead} → r ≡ headingOf s → r ≡ heading.Refused x → ⊥
-  unfolding titledReach titledReachAt reachEnds
-  titled-never-refused p q = let e = rw (titled-ends k s, sym p ∙ q) at good in let z : _≡_ {A = ℕ} 0 1 = cc in omega arith
+  unfolding titleTrace ends
+  titled-never-refused p q = let e = rw (sym p ∙ q) at traced in let z : _≡_ {A = ℕ} 0 1 = cc in omega arith
 
   -- there is a heading
   pub titled-heading : (h : Heading) × TitledWell k h s

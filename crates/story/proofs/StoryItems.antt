@@ -19,7 +19,7 @@ use Rattle.records.specs.Items.{Item, itemOf, itemsAs, itemsIn}
 use Rattle.story.specs.Headings.{headingOf}
 use Rattle.story.specs.Flows.{names, pieceAt, piece, titled, stitch, stitches, flow, flows, part, titledAt, titledIn, piecesAt, piecesN, piecesIn, stitchIn, titleEnd, flowIn, flowsIn}
 use Rattle.story.specs.File.{sectionsRead, storyIn}
-use Rattle.story.proofs.Endings.{ends-then, ends-shift, first-well, second-well}
+use Rattle.story.proofs.Endings.{both-well, shift-well}
 use Rattle.records.specs.Work.{itemsOf}
 use Rattle.story.specs.Story.{stitchItems, flowItems, storyItems}
 use Rattle.story.proofs.RecordsMet.{met-then, met-shift}
@@ -32,13 +32,6 @@ items-then b t u h = rw (met-then b t u h) (map-append itemOf (met b t) (met b u
 
 pub items-shift : (b a : ℕ) (t : Trace) → itemsOf b (shift a t) ≡ itemsOf (b + a) t
 items-shift b a t = ap (map itemOf) (met-shift b a t)
-
--- both parts of a trace that ends well
-pub both-well : (t u : Trace) → ends (andThen t u) ≡ well → (ends t ≡ well) × (ends u ≡ well)
-both-well t u h = let e = sym (ends-then t u) ∙ h in (first-well (ends t) (ends u) e, second-well (ends t) (ends u) e)
-
-pub shift-well : (a : ℕ) (t : Trace) → ends (shift a t) ≡ well → ends t ≡ well
-shift-well a t h = sym (ends-shift a t) ∙ h
 
 -- the items of a list that can be read
 pub items-in : (b : ℕ) (s : List ℕ) → ends (nodes s) ≡ well → itemsOf b (nodes s) ≡ itemsIn b s

@@ -35,7 +35,8 @@ use Rattle.records.specs.Numbers.{numberOf, keptOf}
 use Rattle.records.specs.Work.{itemsOf}
 use Rattle.story.specs.Story.{storyItems}
 use Rattle.story.proofs.Titled.{titleTrace, titled-trace, quiet, names-quiet}
-use Rattle.story.proofs.StoryItems.{both-well, shift-well, story-items}
+use Rattle.story.proofs.Endings.{both-well, shift-well}
+use Rattle.story.proofs.StoryItems.{story-items}
 
 -- 1. Weights
 
