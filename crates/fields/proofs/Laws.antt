@@ -29,6 +29,15 @@ module _ {A : Type 0} (x y z : A) (s : List ℕ) (w m : ℕ) where
       by-tests false true p q r = absurd (refused r)
       by-tests false false p q r = (r, omega (arith, ltb-false (length s) w p, ltb-false (length s - w) m q))
 
+  -- an answer z that is not y is the refusal x
+  counted-refused : (y ≡ z → ⊥) → pick (ltb (length s) w) x (pick (ltb (length s - w) m) x y) ≡ z → x ≡ z
+  counted-refused whole e = by-tests (ltb (length s) w) (ltb (length s - w) m) e
+    where
+      by-tests : (i j : Bool) → pick i x (pick j x y) ≡ z → x ≡ z
+      by-tests true j r = r
+      by-tests false true r = r
+      by-tests false false r = absurd (whole r)
+
 -- they do not fit, and they fit
 module _ {A : Type 0} (x y : A) (s : List ℕ) (w m : ℕ) where
   counted-short : length s < w + m → pick (ltb (length s) w) x (pick (ltb (length s - w) m) x y) ≡ x
@@ -84,6 +93,25 @@ unfolding nameOf
 name-fits s n e q =
     let h = counted (Span.Refused Short) (Span.Bytes (getD s 0 0)) (Span.Bytes n) s 1 (getD s 0 0) (λ p. let z : _≡_ {A = ℕ} 0 1 = cc in omega arith) (sym e ∙ q) in
     let z : getD s 0 0 ≡ n = cc (h .0) in omega (arith, h .1)
+
+-- a head, a list and a name are refused for want of bytes only
+pub head-refusal : (s : List ℕ) (r : Refusal) → headOf s ≡ Head.Refused r → r ≡ Short
+unfolding headOf
+head-refusal s r e =
+    let same = counted-refused (Head.Refused Short) (Head.Piece (getD s 0 0) (le32At s 1)) (Head.Refused r) s 5 (le32At s 1) (λ p. let z : _≡_ {A = ℕ} 0 1 = cc in omega arith) e in
+    cc
+
+pub list-refusal : (s : List ℕ) (r : Refusal) → listOf s ≡ Span.Refused r → r ≡ Short
+unfolding listOf
+list-refusal s r e =
+    let same = counted-refused (Span.Refused Short) (Span.Bytes (le32At s 0)) (Span.Refused r) s 4 (le32At s 0) (λ p. let z : _≡_ {A = ℕ} 0 1 = cc in omega arith) e in
+    cc
+
+pub name-refusal : (s : List ℕ) (r : Refusal) → nameOf s ≡ Span.Refused r → r ≡ Short
+unfolding nameOf
+name-refusal s r e =
+    let same = counted-refused (Span.Refused Short) (Span.Bytes (getD s 0 0)) (Span.Refused r) s 1 (getD s 0 0) (λ p. let z : _≡_ {A = ℕ} 0 1 = cc in omega arith) e in
+    cc
 
 -- the head of a record that stands whole in the first n bytes is the head in all bytes
 pub head-take : (n : ℕ) (s : List ℕ) (k m : ℕ) → headOf (take n s) ≡ Head.Piece k m → headOf s ≡ Head.Piece k m

@@ -4,7 +4,7 @@ use mathlib.Core.Path.{_≡_, refl}
 use mathlib.Core.Logic.{_⊎_, inl, inr}
 use mathlib.Core.List.{List, [], _∷_, List·Memᴰ, List·Memᴰ·not-nil, List·Memᴰ·cases-cons}
 use mathlib.Core.Bool.{Bool, true, false}
-use Prim.Native.Nat.{ℕ, zero, suc, _+_, _-_, _≤_}
+use Prim.Native.Nat.{ℕ, zero, suc, _+_, _≤_}
 use native.Mathlib.Omega.{arith}
 use lib.Dec.{ltb, eqb}
 use lib.ListN.{length, getD, take, drop, length-take, length-drop}
@@ -18,9 +18,9 @@ use Rattle.fields.specs.declared.FlagRead.{FlagRead}
 use Rattle.fields.specs.declared.FlagRead.the-variants as flag
 use Rattle.fields.specs.declared.Kinded.{Kinded}
 use Rattle.fields.specs.declared.Kinded.the-variants as kinded
-use Rattle.fields.specs.Bytes.{Head, Span, pick, le32At, headOf, listOf, nameOf, flagOf}
+use Rattle.fields.specs.Bytes.{Head, Span, pick, headOf, listOf, nameOf, flagOf}
 use Rattle.fields.specs.Kinds.{kindOf}
-use Rattle.fields.proofs.Laws.{head-fits, list-fits, name-fits, off-fits, on-fits}
+use Rattle.fields.proofs.Laws.{head-fits, list-fits, name-fits, head-refusal, list-refusal, name-refusal, off-fits, on-fits}
 use Rattle.records.specs.Trace.{Trace, done, refuse, emit, andThen, shift, Record, met}
 use Rattle.records.specs.Grammar.{Reading, Reader, frontAt, front, ending, repeatN, repeat, records, exact, listedAt, listed, namedAt, named, flaggedAt, flagged, moded, last, orElse, arms, options, tested, branch, bodyOf, whole, tooDeep, recordOf, nodes}
 use Rattle.story.specs.Flows.{names, namesThen, counted, pieceAt, piece, titled, stitch, stitches, flow, flows}
@@ -32,30 +32,6 @@ pub data OfReading : Refusal → Type 0 where
   short : OfReading Short
   unknown : OfReading Unknown
   deep : OfReading Deep
-
--- a name, a list and a head are refused by 4: two tests, and else the piece y, which no refusal is
-counted-refusal : {A : Type 0} (refuse-by : Refusal → A) (y : A) → ((r q : Refusal) → refuse-by r ≡ refuse-by q → r ≡ q) → ((r : Refusal) → y ≡ refuse-by r → ⊥)
-    → (i j : Bool) (r : Refusal) → pick i (refuse-by Short) (pick j (refuse-by Short) y) ≡ refuse-by r → OfReading r
-counted-refusal refuse-by y same other true j r f = rw (← same Short r f) short
-counted-refusal refuse-by y same other false true r f = rw (← same Short r f) short
-counted-refusal refuse-by y same other false false r f = absurd (other r f)
-
-span-refusal : (i j : Bool) (n : ℕ) (r : Refusal) → pick i (Span.Refused Short) (pick j (Span.Refused Short) (Span.Bytes n)) ≡ Span.Refused r → OfReading r
-span-refusal i j n r f = counted-refusal Span.Refused (Span.Bytes n) (λ x y e. cc) (λ x e. let z : _≡_ {A = ℕ} 0 1 = cc in omega arith) i j r f
-
-name-refusal : (s : List ℕ) (r : Refusal) → nameOf s ≡ Span.Refused r → OfReading r
-unfolding nameOf
-name-refusal s r e = span-refusal (ltb (length s) 1) (ltb (length s - 1) (getD s 0 0)) (getD s 0 0) r e
-
-list-refusal : (s : List ℕ) (r : Refusal) → listOf s ≡ Span.Refused r → OfReading r
-unfolding listOf
-list-refusal s r e = span-refusal (ltb (length s) 4) (ltb (length s - 4) (le32At s 0)) (le32At s 0) r e
-
-head-refusal : (s : List ℕ) (r : Refusal) → headOf s ≡ Head.Refused r → OfReading r
-unfolding headOf
-head-refusal s r e =
-    counted-refusal Head.Refused (Head.Piece (getD s 0 0) (le32At s 1)) (λ x y q. cc) (λ x q. let z : _≡_ {A = ℕ} 0 1 = cc in omega arith)
-    (ltb (length s) 5) (ltb (length s - 5) (le32At s 1)) r e
 
 -- a flag is refused by 4 or 5
 flag-refusal : (s : List ℕ) (r : Refusal) → flagOf s ≡ flag.Refused r → OfReading r
@@ -123,7 +99,7 @@ module _ (P : ℕ → ℕ → Trace → Trace → Type 0) (kept : KeptOfTwo P) w
           let inside = take n (drop 5 s) in
           kept .both (f kind inside) (g kind inside) (shift (5 + n) (j (drop (5 + n) s))) (shift (5 + n) (k (drop (5 + n) s))) (omega arith) fits
           (kept .wider (f kind inside) (g kind inside) (omega arith) (omega (arith, length-take n (drop 5 s), length-drop 5 s)) (r kind inside)) (rest-holds (5 + n) s j k h fits)
-      by-head (Head.Refused x) e = kept .refused 0 (length s) x (head-refusal s x e)
+      by-head (Head.Refused x) e = kept .refused 0 (length s) x (rw (head-refusal s x e) short)
 
   ending-holds : Holds ending ending
   unfolding ending
@@ -158,7 +134,7 @@ module _ (P : ℕ → ℕ → Trace → Trace → Type 0) (kept : KeptOfTwo P) w
           let inside = take n (drop 4 s) in
           kept .both (shift 4 (f inside)) (shift 4 (g inside)) (shift (4 + n) (j (drop (4 + n) s))) (shift (4 + n) (k (drop (4 + n) s))) (omega arith) fits
           (part-holds 4 n s f g r fits) (rest-holds (4 + n) s j k h fits)
-      by-span (Span.Refused x) e = kept .refused 0 (length s) x (list-refusal s x e)
+      by-span (Span.Refused x) e = kept .refused 0 (length s) x (rw (list-refusal s x e) short)
 
   listed-holds : (f g : Reader) (j k : Reading) → HoldsRecord f g → Holds j k → Holds (listed f j) (listed g k)
   unfolding listedAt pieceAt
@@ -174,7 +150,7 @@ module _ (P : ℕ → ℕ → Trace → Trace → Type 0) (kept : KeptOfTwo P) w
     where
       by-name : (x : Span) → nameOf s ≡ x → P 0 (length s) (namedAt x j s) (namedAt x k s)
       by-name (Span.Bytes n) e = after-holds (1 + n) s j k h (name-fits s n refl e)
-      by-name (Span.Refused r) e = kept .refused 0 (length s) r (name-refusal s r e)
+      by-name (Span.Refused r) e = kept .refused 0 (length s) r (rw (name-refusal s r e) short)
 
   flagged-holds : (j k j′ k′ : Reading) → Holds j k → Holds j′ k′ → Holds (flagged j j′) (flagged k k′)
   unfolding flaggedAt
