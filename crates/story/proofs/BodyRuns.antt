@@ -58,11 +58,11 @@ placed-lies s lo hi b (refuse r) h = tt
 placed-lies s lo hi b (emit role kind p bs t) h = (omega (arith, h .0), lies-wider (itemsOf b t) (omega (arith, h .0)) (omega arith) (placed-lies s (suc p) hi b t (h .2)))
 
 -- the items of a reading lie where its bytes stand
-pub reading-lies : (k : Reading) → Places k → (b : ℕ) (s : List ℕ) → Lies b (b + length s) (itemsOf b (k s))
+reading-lies : (k : Reading) → Places k → (b : ℕ) (s : List ℕ) → Lies b (b + length s) (itemsOf b (k s))
 reading-lies k g b s = lies-wider (itemsOf b (k s)) (omega arith) (omega arith) (placed-lies s 0 (length s) b (k s) (g s))
 
 module _ (from to : ℕ) where
-  pub between-append : (xs ys : List ℕ) → between from to (xs ++ ys) ≡ between from to xs ++ between from to ys
+  between-append : (xs ys : List ℕ) → between from to (xs ++ ys) ≡ between from to xs ++ between from to ys
   unfolding between
   between-append [] ys = refl
   between-append (x ∷ xs) ys = by-test (not (ltb (placeIn x) from) && ltb (placeIn x) to) (between-append xs ys)
@@ -107,7 +107,7 @@ module _ (from to : ℕ) where
       by-test false e = rw (place-back i (omega (arith, h .0)), le-ltb (i .place) from (omega (arith, h .0)), lt-ltb (i .place) to (omega (arith, h .0)), e)
 
   -- none of them
-  pub none-between : {lo hi : ℕ} (l : List Item) → Lies lo hi l → hi ≤ 1048576 → (hi ≤ from) ⊎ (to ≤ lo) → between from to (keptOf l) ≡ []
+  none-between : {lo hi : ℕ} (l : List Item) → Lies lo hi l → hi ≤ 1048576 → (hi ≤ from) ⊎ (to ≤ lo) → between from to (keptOf l) ≡ []
   unfolding Lies keptOf between
   none-between [] h low p = refl
   none-between {lo} {hi} (i ∷ l) h low p = by-test (is plain (i .what)) p (none-between l (h .1) low p)
@@ -126,7 +126,7 @@ module _ (from to : ℕ) where
 
 -- 2. A list of nodes
 
-pub items-lie : (b : ℕ) (s : List ℕ) → Lies b (b + length s) (itemsIn b s)
+items-lie : (b : ℕ) (s : List ℕ) → Lies b (b + length s) (itemsIn b s)
 unfolding itemsIn itemsAs Lies
 items-lie b s = by-end (ends (nodes s))
   where

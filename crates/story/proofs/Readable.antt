@@ -69,7 +69,7 @@ module _ (t : List ℕ) (good : ends (names t) ≡ well) where
   pub names-rest : (k : ℕ) {r : Span} → r ≡ nameOf t → r ≡ Span.Bytes k → ends (names (drop (1 + k) t)) ≡ well
   names-rest k p q = sym (names-on t k (omega (arith, name-fits t k p q)) p q) ∙ good
 
-  pub names-never-refused : {x : Refusal} {r : Span} → 0 < length t → r ≡ nameOf t → r ≡ Span.Refused x → ⊥
+  names-never-refused : {x : Refusal} {r : Span} → 0 < length t → r ≡ nameOf t → r ≡ Span.Refused x → ⊥
   names-never-refused h p q = let e = names-refused t h p q in let z : _≡_ {A = ℕ} 0 1 = cc in omega arith
 
   pub names-front : 0 < length t → (k : ℕ) × (nameOf t ≡ Span.Bytes k)
@@ -88,7 +88,7 @@ module _ (g : Reading) (t : List ℕ) (good : ends (repeat (piece g) t) ≡ well
   pub piece-rest : (n : ℕ) {r : Span} → r ≡ listOf t → r ≡ Span.Bytes n → ends (repeat (piece g) (drop (4 + n) t)) ≡ well
   piece-rest n p q = second-well (ends (g (take n (drop 4 t)))) _ (sym (pieces-step g t n (omega (arith, list-fits t n p q)) p q) ∙ good)
 
-  pub piece-never-refused : {x : Refusal} {r : Span} → 0 < length t → r ≡ listOf t → r ≡ Span.Refused x → ⊥
+  piece-never-refused : {x : Refusal} {r : Span} → 0 < length t → r ≡ listOf t → r ≡ Span.Refused x → ⊥
   piece-never-refused h p q = let e = pieces-end-refused g t h p q in let z : _≡_ {A = ℕ} 0 1 = cc in omega arith
 
   -- where there is no further piece, nothing is left
@@ -126,7 +126,7 @@ module _ (k : Reading) (s : List ℕ) (good : ends (titled k s) ≡ well) where
       let d = both-well (shift (h .nodes) inside) (shift (h .end) after) (rw to at traced) in
       record { told = to; laid = heading-laid s h p q; nodes = shift-well (h .nodes) inside (d .0); rest = shift-well (h .end) after (d .1) }
 
-  pub titled-never-refused : {x : Refusal} {r : HeadingRead} → r ≡ headingOf s → r ≡ heading.Refused x → ⊥
+  titled-never-refused : {x : Refusal} {r : HeadingRead} → r ≡ headingOf s → r ≡ heading.Refused x → ⊥
   unfolding titleTrace ends
   titled-never-refused p q = let e = rw (sym p ∙ q) at traced in let z : _≡_ {A = ℕ} 0 1 = cc in omega arith
 

@@ -27,19 +27,19 @@ use Rattle.story.proofs.Titled.{titleTrace, titled-trace, quiet, names-
 
 -- 1. The items of two traces, of a trace further on
 
-pub items-then : (b : ℕ) (t u : Trace) → ends t ≡ well → itemsOf b (andThen t u) ≡ itemsOf b t ++ itemsOf b u
+items-then : (b : ℕ) (t u : Trace) → ends t ≡ well → itemsOf b (andThen t u) ≡ itemsOf b t ++ itemsOf b u
 items-then b t u h = rw (met-then b t u h) (map-append itemOf (met b t) (met b u))
 
-pub items-shift : (b a : ℕ) (t : Trace) → itemsOf b (shift a t) ≡ itemsOf (b + a) t
+items-shift : (b a : ℕ) (t : Trace) → itemsOf b (shift a t) ≡ itemsOf (b + a) t
 items-shift b a t = ap (map itemOf) (met-shift b a t)
 
 -- the items of a list that can be read
-pub items-in : (b : ℕ) (s : List ℕ) → ends (nodes s) ≡ well → itemsOf b (nodes s) ≡ itemsIn b s
+items-in : (b : ℕ) (s : List ℕ) → ends (nodes s) ≡ well → itemsOf b (nodes s) ≡ itemsIn b s
 unfolding itemsIn itemsAs
 items-in b s h = rw h
 
 -- names have none
-pub names-items : (b : ℕ) (s : List ℕ) → itemsOf b (names s) ≡ []
+names-items : (b : ℕ) (s : List ℕ) → itemsOf b (names s) ≡ []
 unfolding quiet met
 names-items b s = rw (names-quiet s) (by-end (ends (names s)))
   where
@@ -128,7 +128,7 @@ flow-flagged b s r e = by-flag r e
     by-flag flag.On h = rest h
     by-flag (flag.Refused x) h = let z : _≡_ {A = ℕ} 0 1 = cc in absurd (omega arith)
 
-pub flow-items : (b : ℕ) (s : List ℕ) → ends (flow s) ≡ well → itemsOf (b + 4) (flow s) ≡ flowItems (flowIn b s)
+flow-items : (b : ℕ) (s : List ℕ) → ends (flow s) ≡ well → itemsOf (b + 4) (flow s) ≡ flowItems (flowIn b s)
 unfolding flow
 flow-items b s h = flow-flagged b s (flagOf s) h
 

@@ -25,7 +25,7 @@ use Rattle.story.specs.Flows.{names, namesThen, counted, titled, part}
 -- 1. A title
 
 -- what reaches so far, followed by k
-unfoldable pub reachTrace : Reach → Reading → List ℕ → Trace
+unfoldable reachTrace : Reach → Reading → List ℕ → Trace
 reachTrace (reach.To e) k s = shift e (k (drop e s))
 reachTrace (reach.Refused r) k s = refuse r
 
