@@ -216,20 +216,49 @@ fn depth_64_is_accepted_and_65_refused() {
     }
 }
 
+/// A record of these pieces.
+fn joined(kind: u8, pieces: &[&[u8]]) -> Vec<u8> {
+    record(kind, &pieces.concat())
+}
+
+/// A node around another.
+type Way = fn(&[u8]) -> Vec<u8>;
+
+/// How a node goes into another: a sequence, either branch of a conditional, a case of a switch,
+/// a choice with a label.
+const WAYS: [Way; 5] = [
+    |node| record(10, &sized(node)),
+    |node| joined(8, &[&record(0, &[]), &sized(node), &[0]]),
+    |node| joined(8, &[&record(0, &[]), &sized(&[]), &[1], &sized(node)]),
+    |node| joined(9, &[&record(0, &[]), &[1], &record(0, &[]), &sized(node)]),
+    |node| joined(14, &[&[1, 1, b'a'], &sized(&[]), &sized(node)]),
+];
+
+/// For each way, the file of nodes in one another, the innermost of which has this depth.
+fn nested(depth: usize) -> Vec<Vec<u8>> {
+    let file = |way: Way| {
+        let inside = (1..depth).fold(record(0, &[]), |inside, _| way(&inside));
+        file_of_root(&inside)
+    };
+    WAYS.map(file).to_vec()
+}
+
 #[test]
 fn calls_fit_a_stack_of_1792_kib() {
     let (longest, _) = longest();
-    let mut files = vec![longest];
+    let mut files = vec![(longest, false)];
     for length in [4096, 4097, 65536, 65537, LONGEST_FILE] {
-        for deep in [negations(64), sequences(64), sequences(65)] {
-            files.push(grown(&deep, length));
-        }
+        files.push((grown(&negations(64), length), false));
+        files.extend(nested(64).iter().map(|deep| (grown(deep, length), false)));
+        files.extend(nested(65).iter().map(|deep| (grown(deep, length), true)));
     }
     let calls = move || {
         let mut validator = Validator::new();
-        for file in &files {
-            validator.check_bytes(file);
-            validator.lookup_bytes(file, b"nowhere");
+        for (file, refused) in &files {
+            let answer = validator.check_bytes(file);
+            assert_eq!(answer == Answer::Refused(Refusal::Depth), *refused);
+            let found = validator.lookup_bytes(file, b"nowhere");
+            assert_eq!(found == Lookup::Refused(Refusal::Depth), *refused);
         }
     };
     let thread = std::thread::Builder::new().stack_size(1792 * 1024);
