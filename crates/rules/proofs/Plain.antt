@@ -7,7 +7,7 @@ use Rattle.names.specs.Words.{Bytes, same, any, only, each}
 use Rattle.names.proofs.Any.{any-append}
 use Rattle.records.specs.Items.{Kind, plain, temp, gather, parameter, stitchName, flowStart, What, is, Item}
 use Rattle.story.specs.Story.{Name, Stitch, Flow, Story, whats}
-use Rattle.story.specs.Plain.{notPlain, withoutPlain, Unlabelled, UnlabelledStory}
+use Rattle.story.specs.Plain.{withoutPlain, Unlabelled, UnlabelledStory}
 use Rattle.story.specs.Fewer.{Aligned, end, next, Matching, samePlaces, LikeName, LikeItem, IsPlain, Fewer, none, kept, left, FewerStitch, FewerFlow, FewerStory}
 use Rattle.story.proofs.Plain.{aligned-append, aligned-only, aligned-each, aligned-paths, aligned-words, not-plain-fewer, without-plain-fewer}
 use Rattle.searches.specs.Called.{isFlow, isFunction}
@@ -18,6 +18,7 @@ use Rattle.rules.specs.declared.Rule.{Rule}
 use Rattle.rules.specs.declared.Rule.the-variants.{FunctionDivertedTo, TargetNotFound, FlowCalled, NameIsFunction, NameIsGlobal, TempIsParameter, TempIsLabel, ParameterUnmarked, ParameterAlreadyMarked, GatherRepeated, ChoiceUndiverted, FunctionWithStitches, FunctionWithChoice, FunctionWithDivert, VariableForbidden}
 use Rattle.rules.specs.Rules.{Known, Here, broken, known, Scope, root, knot, stitch, knotLabel, here}
 use Rattle.rules.specs.Steps.{Step, s5, s6, s12, s19, s20, bracket, Run, over, nameItem, paramItems, stitchItems, purityItems, rootSteps, flowSteps, stitchSteps, stitchRuns, flowRuns, runs, Numbered, numbered, Breach, namesOf, flowNamed, visits, breach, breaks, inVisit, inRun, breaches, first, verdict}
+use Rattle.rules.specs.Sorts.{BodyOf, of-root, of-flow, of-stitch}
 use Rattle.rules.specs.Plain.{LikeBreach, PlainChangeNothing}
 use Rattle.rules.proofs.Order.{same-known, same-here}
 
@@ -284,11 +285,11 @@ module _ (m : Matching) (missing : m .name absent absent) where
 equal-breach : (b c : Breach) → LikeBreach samePlaces b c → b ≡ c
 equal-breach b c h = λ i. record { instance = h .instance i; rule = h .rule i; place = h .place i; names = (h .first i, h .second i) }
 
-pub labels-plain : (l : List Item) → Unlabelled l → (n : Bytes) → labelIn (notPlain l) n ≡ labelIn l n
-labels-plain l h n = sym (label-fewer n (not-plain-fewer l h))
-
-pub temps-plain : (l : List Item) → Unlabelled l → (n : Bytes) → tempIn (notPlain l) n ≡ tempIn l n
-temps-plain l h n = sym (temp-fewer n (not-plain-fewer l h))
+-- no plain item of a body bears a label
+body-unlabelled : (s : Story) → UnlabelledStory s → {l : List Item} → BodyOf s l → Unlabelled l
+body-unlabelled s h of-root = h .root
+body-unlabelled s h (of-flow {f} m) = h .flows f m .body
+body-unlabelled s h (of-stitch {f} {t} m q) = h .flows f m .stitches t q
 
 pub known-plain : (s : Story) → UnlabelledStory s → known (withoutPlain s) ≡ known s
 known-plain s h = sym (known-fewer s (withoutPlain s) (without-plain-fewer s h))
@@ -302,6 +303,8 @@ verdict-plain s h = ap first (breaches-plain s h)
 
 pub plain-change-nothing : (s : Story) → UnlabelledStory s → PlainChangeNothing s
 plain-change-nothing s h = record {
+  labels = λ l m n. sym (label-fewer n (not-plain-fewer l (body-unlabelled s h m)));
+  temps = λ l m n. sym (temp-fewer n (not-plain-fewer l (body-unlabelled s h m)));
   entries = entries-plain s h;
   spellings = spellings-plain s h;
   known = known-plain s h;
