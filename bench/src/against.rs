@@ -29,7 +29,7 @@ pub fn rule() -> String {
 
 runs the archive `libqaabireed.a` of an earlier landing and that of this one (in `target/staticlib`, or in the folder that `QAABIREED_LIB_DIR` names) on the stories below, and prints a row for each story and size: both times, and this one's divided by the earlier one's. Under 1 this one takes less time.
 
-- Both are linked to the same program, `bench/caller`, and run on the same files, with an index of 4 × (L-20) numbers for a file of L bytes, so that an archive that wants another length of index than this one is run too.
+- Both are linked to the same program, `bench/caller`, and run on the same files, with an index of 4 × (L-20) numbers, L the length of the row's longest file, so that an archive that wants another length of index than this one is run too.
 - A round is one process of each, one after the other, the next round in the other order. There are {ROUNDS} rounds; none is begun once a row has taken {enough} s.
 - A process measures for at least 0.2 s and three times; work under 1 ms is repeated until it lasts that long, and what takes over 1 s in its first run is not run again. It tells the least processor time that it measured.
 - **The rule**: the time of an archive is the least of all its rounds, and the ratio is that of these two times. Beside it stand the least and the largest ratio of a single round: where they lie far apart, the machine was not quiet.

@@ -1,4 +1,4 @@
--- Flows and stitches by the places of their parts in the file, and what they are to the rules. Assumes nothing.
+-- Inner contract. Flows and stitches by the places of their parts in the file, and what they are to the rules. Assumes nothing.
 use Prim.Native.Nat.{ℕ, _+_}
 use mathlib.Core.List.{List}
 use lib.ListN.{getD, drop}
