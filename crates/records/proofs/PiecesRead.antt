@@ -20,10 +20,10 @@ use Rattle.records.specs.declared.PieceRead.the-variants as piece-read
 use Rattle.records.specs.declared.Walk.{Walk}
 use Rattle.records.specs.declared.Walk.the-variants as walk
 use Rattle.records.specs.Trace.{Trace, andThen, shift}
-use Rattle.records.specs.Grammar.{Reading, Reader, frontAt, front, nothing, records, listedAt, listed, flaggedAt, tested, branch}
+use Rattle.records.specs.Grammar.{Reading, Reader, frontAt, front, nothing, records, pieceAt, listed, flaggedAt, tested, branch}
 use Rattle.records.specs.Work.{St, st, Ran, ended, broke, Visitor, run, walkOf, ranOut, pieceReadOf, Told, ToldTo, headEndOf, headEnd, listEndOf, listEnd, testEndOf, testEnd, branchEnd}
 use Rattle.records.proofs.Readings.{front-then, branch-tested, branch-then}
-use Rattle.records.proofs.Walking.{then-on, then-else, front-alone, listed-alone, flagged-off, flagged-on, flagged-refused, told-done}
+use Rattle.records.proofs.Walking.{then-on, then-else, front-alone, sized-alone, flagged-off, flagged-on, flagged-refused, told-done}
 
 -- 1. An answer with a place, and one without
 
@@ -141,19 +141,19 @@ module _ (v : Visitor St) (b : ℕ) (s₀ : St) (f : Reader) (s : List ℕ) wher
   pub list-answers : (to : ℕ) {r : Reach} {w : Walk} {o : List ℕ} → r ≡ spanReach 4 (listOf s) → r ≡ reach.To to
       → Told (run v (b + 4) s₀ (records f (take (to - 4) (drop 4 s)))) w o → (m : ℕ) → w ≡ walk.Done m → ToldTo (run v b s₀ (listed f nothing s)) (listEnd s) (piece-read.To to m) o
   list-answers to e q g m z =
-      piece-answers (run v b s₀ (listed f nothing s)) (listEnd s) (listed-alone v b s₀ f s to e q g) to m z (list-end s to e q)
+      piece-answers (run v b s₀ (listed f nothing s)) (listEnd s) (sized-alone v b s₀ (records f) s to e q g) to m z (list-end s to e q)
 
   pub list-answers-refused : (to : ℕ) {r : Reach} {w : Walk} {o : List ℕ} → r ≡ spanReach 4 (listOf s) → r ≡ reach.To to
       → Told (run v (b + 4) s₀ (records f (take (to - 4) (drop 4 s)))) w o → (x : Refusal) → w ≡ walk.Refused x → ToldTo (run v b s₀ (listed f nothing s)) (listEnd s) (piece-read.Refused x) o
   list-answers-refused to e q g x z =
-      piece-answers-refused (run v b s₀ (listed f nothing s)) (listEnd s) (listed-alone v b s₀ f s to e q g) x z refl
+      piece-answers-refused (run v b s₀ (listed f nothing s)) (listEnd s) (sized-alone v b s₀ (records f) s to e q g) x z refl
 
   module _ {a : PieceRead} {o : List ℕ} (g : ToldTo (run v b s₀ (listed f nothing s)) (listEnd s) a o) where
     pub listed-fits : (e m : ℕ) → a ≡ piece-read.To e m → (4 ≤ e) × (e ≤ length s)
-    unfolding listedAt listEndOf run walkOf
+    unfolding pieceAt listEndOf run walkOf
     listed-fits = piece-within v b s₀ (listed f nothing s) (listEnd s) g 4 (length s) (list-end-fits s) (λ m. by-span m (listOf s))
       where
-        by-span : (m : ℕ) (x : Span) → walk.Done m ≡ walkOf (run v b s₀ (listedAt x f nothing s)) → 4 ≤ listEndOf x
+        by-span : (m : ℕ) (x : Span) → walk.Done m ≡ walkOf (run v b s₀ (pieceAt x (records f) nothing s)) → 4 ≤ listEndOf x
         by-span m (Span.Bytes n) z = omega arith
         by-span m (Span.Refused r) z = let y : _≡_ {A = ℕ} 0 1 = cc in absurd (omega arith)
 

@@ -25,7 +25,7 @@ use Rattle.fields.specs.Kinds.{kindOf}
 use Rattle.fields.proofs.Laws.{head-fits, list-fits, name-fits, off-fits, on-fits, head-take}
 use Rattle.names.specs.Words.{Sorted}
 use Rattle.records.specs.Trace.{Trace, done, refuse, emit, andThen, shift, Record, met}
-use Rattle.records.specs.Grammar.{Reading, Reader, frontAt, front, ending, repeatN, repeat, records, exact, listedAt, listed, namedAt, named, flaggedAt, flagged, moded, last, orElse, arms, options, tested, branch, bodyOf, whole, tooDeep, recordOf, nodes}
+use Rattle.records.specs.Grammar.{Reading, Reader, frontAt, front, ending, repeatN, repeat, records, exact, pieceAt, piece, listed, namedAt, named, flaggedAt, flagged, moded, last, orElse, arms, options, tested, branch, bodyOf, whole, tooDeep, recordOf, nodes}
 use Rattle.records.specs.Stands.{Stands}
 
 -- 1. A record that stands in a part stands in the whole
@@ -136,17 +136,20 @@ unfolding exact
 exact-places zero f g s = ending-places s
 exact-places (suc n) f g s = front-places f (exact n f) g (exact-places n f g) s
 
-listed-places : (f : Reader) (k : Reading) → PlacesRecord f → Places k → Places (listed f k)
-unfolding listedAt Placed
-listed-places f k g h s = by-span (listOf s) refl
+pub piece-places : (g k : Reading) → Places g → Places k → Places (piece g k)
+unfolding pieceAt Placed
+piece-places g k f h s = by-span (listOf s) refl
   where
-    by-span : (x : Span) → listOf s ≡ x → Placed s 0 (length s) (listedAt x f k s)
+    by-span : (x : Span) → listOf s ≡ x → Placed s 0 (length s) (pieceAt x g k s)
     by-span (Span.Bytes n) e =
         let fits : 4 + n ≤ length s = list-fits s n refl e in
-        let inside = records f (take n (drop 4 s)) in
-        placed-then s (shift 4 inside) (shift (4 + n) (k (drop (4 + n) s))) (omega arith) fits
-        (placed-wider s (shift 4 inside) (omega arith) (omega arith) (part-placed 4 n s (records f) (records-places f g) fits)) (rest-placed (4 + n) s k h fits)
+        let t = g (take n (drop 4 s)) in
+        placed-then s (shift 4 t) (shift (4 + n) (k (drop (4 + n) s))) (omega arith) fits
+        (placed-wider s (shift 4 t) (omega arith) (omega arith) (part-placed 4 n s g f fits)) (rest-placed (4 + n) s k h fits)
     by-span (Span.Refused x) e = tt
+
+listed-places : (f : Reader) (k : Reading) → PlacesRecord f → Places k → Places (listed f k)
+listed-places f k g h = piece-places (records f) k (records-places f g) h
 
 pub named-places : (k : Reading) → Places k → Places (named k)
 unfolding namedAt Placed

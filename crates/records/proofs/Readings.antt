@@ -12,7 +12,7 @@ use Rattle.fields.specs.declared.FlagRead.{FlagRead}
 use Rattle.fields.specs.declared.FlagRead.the-variants as flag
 use Rattle.fields.specs.Bytes.{Head, Span, headOf, listOf, flagOf}
 use Rattle.records.specs.Trace.{done, andThen, shift}
-use Rattle.records.specs.Grammar.{Reading, Reader, frontAt, front, nothing, repeatN, repeat, exact, ending, records, listedAt, listed, flaggedAt, tested, branch}
+use Rattle.records.specs.Grammar.{Reading, Reader, frontAt, front, nothing, repeatN, repeat, exact, ending, records, pieceAt, piece, listed, flaggedAt, tested, branch}
 use Rattle.records.specs.Work.{headEndOf, headEnd, listEndOf, listEnd, testEndOf, testEnd, branchEnd}
 use Rattle.records.proofs.Traces.{shift-then, shift-shift, then-assoc, then-done, done-then, refuse-then, shift-done}
 
@@ -30,11 +30,11 @@ front-local f s j k e = by-head (headOf s)
     by-head (Head.Piece kind n) = rw (e (5 + n) (omega arith))
     by-head (Head.Refused x) = refl
 
-pub listed-local : (f : Reader) → Local (listed f)
-unfolding Local listedAt
-listed-local f s j k e = by-span (listOf s)
+pub piece-local : (g : Reading) → Local (piece g)
+unfolding Local pieceAt
+piece-local g s j k e = by-span (listOf s)
   where
-    by-span : (h : Span) → listedAt h f j s ≡ listedAt h f k s
+    by-span : (h : Span) → pieceAt h g j s ≡ pieceAt h g k s
     by-span (Span.Bytes n) = rw (e (4 + n) (omega arith))
     by-span (Span.Refused x) = refl
 
@@ -43,7 +43,7 @@ unfolding Local branch tested flaggedAt
 branch-local f s j k e = by-flag (flagOf s)
   where
     in-list : (a : ℕ) → listed (f Branch) j (drop a (drop 1 s)) ≡ listed (f Branch) k (drop a (drop 1 s))
-    in-list a = listed-local (f Branch) (drop a (drop 1 s)) j k (λ c h. rw (drop-drop a 1 s, drop-drop c (1 + a) s) (e (1 + a + c) (omega arith)))
+    in-list a = piece-local (records (f Branch)) (drop a (drop 1 s)) j k (λ c h. rw (drop-drop a 1 s, drop-drop c (1 + a) s) (e (1 + a + c) (omega arith)))
 
     by-flag : (x : FlagRead) → flaggedAt x (listed (f Branch) j) (front (f Visited) (listed (f Branch) j)) s
         ≡ flaggedAt x (listed (f Branch) k) (front (f Visited) (listed (f Branch) k)) s
@@ -93,10 +93,10 @@ unfolding frontAt headEndOf
 front-then f k s (Head.Piece kind n) = rw (shift-done (5 + n), then-done (f kind (take n (drop 5 s))))
 front-then f k s (Head.Refused r) = sym (refuse-then r (shift 0 (k (drop 0 s))))
 
-pub listed-then : (f : Reader) (k : Reading) (s : List ℕ) (x : Span) → listedAt x f k s ≡ andThen (listedAt x f nothing s) (shift (listEndOf x) (k (drop (listEndOf x) s)))
-unfolding listedAt listEndOf
-listed-then f k s (Span.Bytes n) = rw (shift-done (4 + n), then-done (shift 4 (records f (take n (drop 4 s)))))
-listed-then f k s (Span.Refused r) = sym (refuse-then r (shift 0 (k (drop 0 s))))
+piece-then : (g k : Reading) (s : List ℕ) (x : Span) → pieceAt x g k s ≡ andThen (pieceAt x g nothing s) (shift (listEndOf x) (k (drop (listEndOf x) s)))
+unfolding pieceAt listEndOf
+piece-then g k s (Span.Bytes n) = rw (shift-done (4 + n), then-done (shift 4 (g (take n (drop 4 s)))))
+piece-then g k s (Span.Refused r) = sym (refuse-then r (shift 0 (k (drop 0 s))))
 
 -- the test of a branch, then the rest
 pub tested-then : (f : Role → Reader) (k : Reading) (s : List ℕ) → tested f k s ≡ andThen (tested f nothing s) (shift (testEnd s) (k (drop (testEnd s) s)))
@@ -123,5 +123,5 @@ branch-then f k s =
     let l = listEnd rest in
     let one = tested f nothing s in
     let two = listed (f Branch) nothing rest in
-    rw (branch-tested f k s, branch-tested f nothing s, listed-then (f Branch) k rest (listOf rest), shift-then t two (shift l (k (drop l rest))), shift-shift t l (k (drop l rest)), drop-drop l t s)
+    rw (branch-tested f k s, branch-tested f nothing s, piece-then (records (f Branch)) k rest (listOf rest), shift-then t two (shift l (k (drop l rest))), shift-shift t l (k (drop l rest)), drop-drop l t s)
     (sym (then-assoc one (shift t two) (shift (t + l) (k (drop (t + l) s)))))

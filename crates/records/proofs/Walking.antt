@@ -27,7 +27,7 @@ use Rattle.fields.proofs.Laws.{span-to, span-refused, head-to, head-refused, to
 use Rattle.records.specs.declared.Walk.{Walk}
 use Rattle.records.specs.declared.Walk.the-variants as walk
 use Rattle.records.specs.Trace.{Trace, done, refuse, andThen, shift}
-use Rattle.records.specs.Grammar.{Reading, Reader, frontAt, front, nothing, ending, records, listedAt, listed, namedAt, named, flaggedAt, flagged, moded, bodyOf, whole, tooDeep, recordOf}
+use Rattle.records.specs.Grammar.{Reading, Reader, frontAt, front, nothing, ending, records, pieceAt, piece, namedAt, named, flaggedAt, flagged, moded, bodyOf, whole, tooDeep, recordOf}
 use Rattle.records.specs.Work.{St, st, Ran, ended, broke, Visitor, bind, run, walkOf, ranOut, Told, endOf}
 use Rattle.records.proofs.Traces.{then-done, shift-done, run-then, run-shift}
 use Rattle.records.proofs.Readings.{repeat-none}
@@ -95,40 +95,37 @@ module _ (v : Visitor St) (b : ℕ) (s₀ : St) where
       → Told (run v b s₀ (f kind (take (to - 5) (drop 5 s)))) w o → Told (run v b s₀ (front f nothing s)) w o
   front-alone f s kind to e q g = rw (front-at f nothing s kind to e q, shift-done to, then-done (f kind (take (to - 5) (drop 5 s)))) g
 
-  -- a list
-  pub listed-refused : (f : Reader) (k : Reading) (s : List ℕ) (x : Refusal) {r : Reach} → r ≡ spanReach 4 (listOf s) → r ≡ reach.Refused x
-      → Told (run v b s₀ (listed f k s)) (walk.Refused x) (s₀ .out)
-  unfolding listedAt
-  listed-refused f k s x e q = told-refused (listed f k s) x (rw (span-refused 4 (listOf s) e x q))
+  -- a piece behind its length, read by g
+  pub sized-refused : (g k : Reading) (s : List ℕ) (x : Refusal) {r : Reach} → r ≡ spanReach 4 (listOf s) → r ≡ reach.Refused x
+      → Told (run v b s₀ (piece g k s)) (walk.Refused x) (s₀ .out)
+  unfolding pieceAt
+  sized-refused g k s x e q = told-refused (piece g k s) x (rw (span-refused 4 (listOf s) e x q))
 
-  -- the list alone
-  pub listed-alone : (f : Reader) (s : List ℕ) (to : ℕ) {r : Reach} {w : Walk} {o : List ℕ} → r ≡ spanReach 4 (listOf s) → r ≡ reach.To to
-      → Told (run v (b + 4) s₀ (records f (take (to - 4) (drop 4 s)))) w o → Told (run v b s₀ (listed f nothing s)) w o
-  unfolding listedAt
-  listed-alone f s to e q g =
-      let inside = records f (take (to - 4) (drop 4 s)) in
-      rw (span-to 4 (listOf s) e to q .0, shift-done (4 + (to - 4)), then-done (shift 4 inside), run-shift v b 4 s₀ inside) g
+  sized-at : (g k : Reading) (s : List ℕ) (to : ℕ) {r : Reach} → r ≡ spanReach 4 (listOf s) → r ≡ reach.To to
+      → piece g k s ≡ andThen (shift 4 (g (take (to - 4) (drop 4 s)))) (shift to (k (drop to s)))
+  unfolding pieceAt
+  sized-at g k s to e q = let h = span-to 4 (listOf s) e to q in rw (h .0, h .1)
 
-  listed-at : (f : Reader) (k : Reading) (s : List ℕ) (to : ℕ) {r : Reach} → r ≡ spanReach 4 (listOf s) → r ≡ reach.To to
-      → listed f k s ≡ andThen (shift 4 (records f (take (to - 4) (drop 4 s)))) (shift to (k (drop to s)))
-  unfolding listedAt
-  listed-at f k s to e q = let h = span-to 4 (listOf s) e to q in rw (h .0, h .1)
+  in-sized : (g : Reading) (s : List ℕ) (to : ℕ) {w : Walk} {o : List ℕ} → Told (run v (b + 4) s₀ (g (take (to - 4) (drop 4 s)))) w o
+      → Told (run v b s₀ (shift 4 (g (take (to - 4) (drop 4 s))))) w o
+  in-sized g s to h = rw (run-shift v b 4 s₀ (g (take (to - 4) (drop 4 s)))) h
 
-  inside : (f : Reader) (s : List ℕ) (to : ℕ) {w : Walk} {o : List ℕ} → Told (run v (b + 4) s₀ (records f (take (to - 4) (drop 4 s)))) w o
-      → Told (run v b s₀ (shift 4 (records f (take (to - 4) (drop 4 s))))) w o
-  inside f s to g = rw (run-shift v b 4 s₀ (records f (take (to - 4) (drop 4 s)))) g
+  pub sized-on : (g k : Reading) (s : List ℕ) (to m : ℕ) {r : Reach} {w : Walk} {o : List ℕ} → r ≡ spanReach 4 (listOf s) → r ≡ reach.To to
+      → Told (run v (b + 4) s₀ (g (take (to - 4) (drop 4 s)))) w o → w ≡ walk.Done m
+      → run v b s₀ (piece g k s) ≡ run v (b + to) (st o m) (k (take (length s - to) (drop to s)))
+  sized-on g k s to m e q h z =
+      rw (to-end to s, sized-at g k s to e q) (then-on (shift 4 (g (take (to - 4) (drop 4 s)))) (k (drop to s)) to m (in-sized g s to h) z)
 
-  pub listed-on : (f : Reader) (k : Reading) (s : List ℕ) (to m : ℕ) {r : Reach} {w : Walk} {o : List ℕ} → r ≡ spanReach 4 (listOf s) → r ≡ reach.To to
-      → Told (run v (b + 4) s₀ (records f (take (to - 4) (drop 4 s)))) w o → w ≡ walk.Done m
-      → run v b s₀ (listed f k s) ≡ run v (b + to) (st o m) (k (take (length s - to) (drop to s)))
-  listed-on f k s to m e q g z =
-      rw (to-end to s, listed-at f k s to e q) (then-on (shift 4 (records f (take (to - 4) (drop 4 s)))) (k (drop to s)) to m (inside f s to g) z)
+  pub sized-else : (g k : Reading) (s : List ℕ) (to : ℕ) {r : Reach} {w : Walk} {o : List ℕ} → r ≡ spanReach 4 (listOf s) → r ≡ reach.To to
+      → Told (run v (b + 4) s₀ (g (take (to - 4) (drop 4 s)))) w o → {x : Refusal} → w ≡ walk.Refused x
+      → Told (run v b s₀ (piece g k s)) w o
+  sized-else g k s to e q h z =
+      rw (sized-at g k s to e q) (then-else (shift 4 (g (take (to - 4) (drop 4 s)))) (shift to (k (drop to s))) (in-sized g s to h) z)
 
-  pub listed-else : (f : Reader) (k : Reading) (s : List ℕ) (to : ℕ) {r : Reach} {w : Walk} {o : List ℕ} → r ≡ spanReach 4 (listOf s) → r ≡ reach.To to
-      → Told (run v (b + 4) s₀ (records f (take (to - 4) (drop 4 s)))) w o → {x : Refusal} → w ≡ walk.Refused x
-      → Told (run v b s₀ (listed f k s)) w o
-  listed-else f k s to e q g z =
-      rw (listed-at f k s to e q) (then-else (shift 4 (records f (take (to - 4) (drop 4 s)))) (shift to (k (drop to s))) (inside f s to g) z)
+  -- the piece alone
+  pub sized-alone : (g : Reading) (s : List ℕ) (to : ℕ) {r : Reach} {w : Walk} {o : List ℕ} → r ≡ spanReach 4 (listOf s) → r ≡ reach.To to
+      → Told (run v (b + 4) s₀ (g (take (to - 4) (drop 4 s)))) w o → Told (run v b s₀ (piece g nothing s)) w o
+  sized-alone g s to e q h = rw (sized-at g nothing s to e q, shift-done to, then-done (shift 4 (g (take (to - 4) (drop 4 s))))) (in-sized g s to h)
 
   -- a name
   pub named-refused : (k : Reading) (s : List ℕ) (x : Refusal) {r : Reach} → r ≡ spanReach 1 (nameOf s) → r ≡ reach.Refused x

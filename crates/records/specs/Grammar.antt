@@ -61,14 +61,18 @@ unfoldable pub exact : ℕ → Reader → Reading
 exact zero f s = ending s
 exact (suc n) f s = front f (exact n f) s
 
--- the list at the front by f, then what follows it by k
-unfoldable pub listedAt : Span → Reader → Reading → Reading
-listedAt (Span.Bytes n) f k s = andThen (shift 4 (records f (take n (drop 4 s)))) (shift (4 + n) (k (drop (4 + n) s)))
-listedAt (Span.Refused r) f k s = refuse r
+-- a piece at the front: a 32-bit byte length, then so many bytes read by g, then what follows them by k
+unfoldable pub pieceAt : Span → Reading → Reading → Reading
+pieceAt (Span.Bytes n) g k s = andThen (shift 4 (g (take n (drop 4 s)))) (shift (4 + n) (k (drop (4 + n) s)))
+pieceAt (Span.Refused r) g k s = refuse r
 
 -- the same, by the length that the bytes have
+abbrev pub piece : Reading → Reading → Reading
+piece g k s = pieceAt (listOf s) g k s
+
+-- the list at the front, a piece of records by f, then what follows it by k
 abbrev pub listed : Reader → Reading → Reading
-listed f k s = listedAt (listOf s) f k s
+listed f k s = piece (records f) k s
 
 -- the name at the front, then what follows it by k
 unfoldable pub namedAt : Span → Reading → Reading

@@ -23,7 +23,7 @@ use Rattle.names.specs.Words.{_∈_}
 use Rattle.names.proofs.Any.{any-in, any-of}
 use Rattle.names.proofs.Means.{Means}
 use Rattle.records.specs.Trace.{Trace, andThen, shift, Record, met, well, ends}
-use Rattle.records.specs.Grammar.{Reading, Reader, frontAt, front, ending, records, listedAt, listed, namedAt, flaggedAt, last, options, bodyOf, recordOf, nodes}
+use Rattle.records.specs.Grammar.{Reading, Reader, frontAt, front, ending, records, pieceAt, listed, namedAt, flaggedAt, last, options, bodyOf, recordOf, nodes}
 use Rattle.records.proofs.Traces.{shift-shift, then-done, shift-done}
 use Rattle.records.proofs.Readings.{front-local, repeat-step}
 use Rattle.records.specs.Items.{Kind, plain, temp, divert, tunnel, thread, call, variable, argument, choice, gather, parameter, stitchName, flowStart, code, What, Item, sortOf, leaving, endingAt, endingN, endWithDivert, spanned, past, unlabelled, choiceBody, leaves, whatOf, itemAs, itemOf}
@@ -179,10 +179,10 @@ record ListRead (f : Reader) (k : Reading) (s : List ℕ) (t : Trace) : Type 0 w
   trace : t ≡ andThen (shift 4 (records f inside)) (shift (4 + is-list .0) (k rest))
 
 list-read : (f : Reader) (k : Reading) (s : List ℕ) → ends (listed f k s) ≡ well → ListRead f k s (listed f k s)
-unfolding listedAt ends
+unfolding pieceAt ends
 list-read f k s good = by-span (listOf s) refl good
   where
-    by-span : (r : Span) → listOf s ≡ r → ends (listedAt r f k s) ≡ well → ListRead f k s (listedAt r f k s)
+    by-span : (r : Span) → listOf s ≡ r → ends (pieceAt r (records f) k s) ≡ well → ListRead f k s (pieceAt r (records f) k s)
     by-span (Span.Bytes n) e g =
         let t = shift 4 (records f (take n (drop 4 s))) in
         let u = k (drop (4 + n) s) in

@@ -11,11 +11,11 @@ use lib.ListN.{length}
 use Rattle.fields.specs.Bytes.{headOf, listOf, nameOf, flagOf}
 use Rattle.fields.specs.Kinds.{nodeKind, kindOf}
 use Rattle.records.specs.Trace.{andThen, shift, met, ends}
-use Rattle.records.specs.Grammar.{frontAt, repeatN, repeat, namedAt, flaggedAt, listedAt, ending, bodyOf, whole, recordOf, nodes}
+use Rattle.records.specs.Grammar.{frontAt, repeatN, repeat, namedAt, flaggedAt, pieceAt, ending, bodyOf, whole, recordOf, nodes}
 use Rattle.story.specs.declared.Sections.{Sections}
 use Rattle.records.specs.Items.{nameIn, sortOf, nameStart, nameless, recordName, labelled, inBranch, leaves, whatOf, itemAs, itemOf, itemsAs, itemsIn}
 use Rattle.story.specs.Headings.{reachAt, namesReach, countedReach, listAt, marksAt, paramsAt, nameThen, headingOf}
-use Rattle.story.specs.Flows.{names, namesThen, counted, pieceAt, titled, stitch, flow, flows, namesN, namesIn, countedIn, part, titledAt, titledIn, piecesAt, piecesN, piecesIn, stitchIn, titleEnd, flowIn, flowsIn}
+use Rattle.story.specs.Flows.{names, namesThen, counted, titled, stitch, flow, flows, namesN, namesIn, countedIn, part, titledAt, titledIn, piecesAt, piecesN, piecesIn, stitchIn, titleEnd, flowIn, flowsIn}
 use Rattle.story.specs.File.{marked, startAt, sectionsOf, openedOf, sectionsRead, readEnded, readAt, readOf, storyIn}
 use Rattle.names.specs.Words.{Sorted}
 use Rattle.names.specs.Reserved.{builtins}
@@ -131,7 +131,7 @@ record Examples : Type 0 where
   shuffled : (x y : ℕ) → AlikeShuffled (storyOf (twoDiverts x y)) (storyOf (twoDiverts y x))
 
 examples : Examples
-unfolding file inOrder exchanged twoDiverts readOf readAt openedOf marked startAt sectionsRead readEnded names namesThen counted pieceAt titled stitch flow flows nodes part repeat repeatN frontAt listedAt namedAt flaggedAt ending headOf listOf nameOf flagOf kindOf nodeKind bodyOf whole recordOf andThen shift ends storyOf storyAt storyIn namesN namesIn countedIn flowsIn piecesIn piecesN piecesAt flowIn stitchIn titleEnd titledIn titledAt headingOf nameThen paramsAt marksAt listAt countedReach namesReach reachAt itemsIn itemsAs met itemOf itemAs whatOf sortOf nameIn nameStart nameless recordName labelled inBranch leaves partsOf partsAt partsIn flowBytes flowParts index.labelled index.stitchEntries index.flowEntries index.entries over stitchRuns flowRuns runs breaches verdict known here broken builtins
+unfolding file inOrder exchanged twoDiverts readOf readAt openedOf marked startAt sectionsRead readEnded names namesThen counted pieceAt titled stitch flow flows nodes part repeat repeatN frontAt namedAt flaggedAt ending headOf listOf nameOf flagOf kindOf nodeKind bodyOf whole recordOf andThen shift ends storyOf storyAt storyIn namesN namesIn countedIn flowsIn piecesIn piecesN piecesAt flowIn stitchIn titleEnd titledIn titledAt headingOf nameThen paramsAt marksAt listAt countedReach namesReach reachAt itemsIn itemsAs met itemOf itemAs whatOf sortOf nameIn nameStart nameless recordName labelled inBranch leaves partsOf partsAt partsIn flowBytes flowParts index.labelled index.stitchEntries index.flowEntries index.entries over stitchRuns flowRuns runs breaches verdict known here broken builtins
 examples = record {
   target-missing = record { readable = record { sections = sections; told = refl }; judged = refl };
   onward-unchecked = record { readable = record { sections = sections; told = refl }; judged = refl };

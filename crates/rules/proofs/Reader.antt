@@ -16,7 +16,7 @@ use Rattle.story.specs.declared.Heading.{Heading}
 use Rattle.story.specs.Story.{words}
 use Rattle.records.specs.Items.{nameIn}
 use Rattle.story.specs.Headings.{countedReach}
-use Rattle.story.specs.Flows.{piece, stitch, flow, flows, namesIn, countedIn, part, piecesAt, piecesN, piecesIn, stitchIn, flowIn, flowsIn}
+use Rattle.story.specs.Flows.{stitch, flow, flows, namesIn, countedIn, part, piecesAt, piecesN, piecesIn, stitchIn, flowIn, flowsIn}
 use Rattle.story.specs.File.{readOf, storyIn}
 use Rattle.story.proofs.Unfolding.{flow-in}
 use Rattle.story.proofs.Readable as file
@@ -39,18 +39,18 @@ story-placed c s = record {
 
 module _ {A B C : Type 0} (g : grammar.Reading) (f : ℕ → List ℕ → A) (h : List ℕ → B) (p : A → C) (q : B → C)
     (same : (at : ℕ) (s : List ℕ) → ends (g s) ≡ well → p (f at s) ≡ q (h s)) where
-  pieces-n : (n a b : ℕ) (t : List ℕ) → ends (grammar.repeat (piece g) t) ≡ well → map p (piecesN n f a t) ≡ map q (piecesN n (λ (at : ℕ) (s : List ℕ). h s) b t)
+  pieces-n : (n a b : ℕ) (t : List ℕ) → ends (grammar.repeat (grammar.piece g) t) ≡ well → map p (piecesN n f a t) ≡ map q (piecesN n (λ (at : ℕ) (s : List ℕ). h s) b t)
   unfolding piecesN piecesAt
   pieces-n zero a b t good = refl
   pieces-n (suc n) a b t good = by-span (listOf t) refl (λ k. pieces-n n (a + (4 + k)) (b + (4 + k)) (drop (4 + k) t))
     where
       by-span : (r : Span) → r ≡ listOf t
-          → ((k : ℕ) → ends (grammar.repeat (piece g) (drop (4 + k) t)) ≡ well → map p (piecesN n f (a + (4 + k)) (drop (4 + k) t)) ≡ map q (piecesN n (λ (at : ℕ) (s : List ℕ). h s) (b + (4 + k)) (drop (4 + k) t)))
+          → ((k : ℕ) → ends (grammar.repeat (grammar.piece g) (drop (4 + k) t)) ≡ well → map p (piecesN n f (a + (4 + k)) (drop (4 + k) t)) ≡ map q (piecesN n (λ (at : ℕ) (s : List ℕ). h s) (b + (4 + k)) (drop (4 + k) t)))
           → map p (piecesAt r f (piecesN n f) a t) ≡ map q (piecesAt r (λ (at : ℕ) (s : List ℕ). h s) (piecesN n (λ (at : ℕ) (s : List ℕ). h s)) b t)
       by-span (Span.Bytes k) e later = ap₂ _∷_ (same a (take k (drop 4 t)) (file.piece-first g t good k e refl)) (later k (file.piece-rest g t good k e refl))
       by-span (Span.Refused x) e later = refl
 
-  pieces-read : (at : ℕ) (t : List ℕ) → ends (grammar.repeat (piece g) t) ≡ well → map p (piecesIn f at t) ≡ map q (piecesBy h t)
+  pieces-read : (at : ℕ) (t : List ℕ) → ends (grammar.repeat (grammar.piece g) t) ≡ well → map p (piecesIn f at t) ≡ map q (piecesBy h t)
   unfolding piecesIn
   pieces-read at t good = pieces-n (length t) at 0 t good
 

@@ -5,12 +5,12 @@ use Prim.Native.Nat.{ℕ, _+_}
 use native.Mathlib.Omega.{arith}
 use Rattle.fields.specs.Bytes.{Span, listOf}
 use Rattle.records.specs.Trace.{well, ends}
-use Rattle.records.specs.Grammar.{Reading, repeat, ending, nodes}
+use Rattle.records.specs.Grammar.{Reading, repeat, ending, nodes, piece}
 use Rattle.story.specs.declared.Heading.{Heading}
 use Rattle.story.specs.declared.HeadingRead.{HeadingRead}
 use Rattle.story.specs.declared.HeadingRead.the-variants as heading
 use Rattle.story.specs.Headings.{headingOf}
-use Rattle.story.specs.Flows.{part, titled, stitch, flow, flows, piece, piecesIn, stitchIn, flowIn, flowsIn, stitches}
+use Rattle.story.specs.Flows.{part, titled, stitch, flow, flows, piecesIn, stitchIn, flowIn, flowsIn, stitches}
 use Rattle.story.proofs.Readable.{TitledWell, titled-well, titled-heading, piece-first, piece-rest, flow-titled}
 use Rattle.story.proofs.Unfolding.{pieces-in-refused}
 use Rattle.searches.specs.declared.views.StitchView.{StitchView}

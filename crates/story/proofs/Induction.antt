@@ -22,8 +22,8 @@ use Rattle.fields.specs.Bytes.{Head, Span, pick, headOf, listOf, nameOf, flagOf
 use Rattle.fields.specs.Kinds.{kindOf}
 use Rattle.fields.proofs.Laws.{head-fits, list-fits, name-fits, head-refusal, list-refusal, name-refusal, off-fits, on-fits}
 use Rattle.records.specs.Trace.{Trace, done, refuse, emit, andThen, shift, Record, met}
-use Rattle.records.specs.Grammar.{Reading, Reader, frontAt, front, ending, repeatN, repeat, records, exact, listedAt, listed, namedAt, named, flaggedAt, flagged, moded, last, orElse, arms, options, tested, branch, bodyOf, whole, tooDeep, recordOf, nodes}
-use Rattle.story.specs.Flows.{names, namesThen, counted, pieceAt, piece, titled, stitch, stitches, flow, flows}
+use Rattle.records.specs.Grammar.{Reading, Reader, frontAt, front, ending, repeatN, repeat, records, exact, pieceAt, listed, namedAt, named, flaggedAt, flagged, moded, last, orElse, arms, options, tested, branch, bodyOf, whole, tooDeep, recordOf, nodes, piece}
+use Rattle.story.specs.Flows.{names, namesThen, counted, titled, stitch, stitches, flow, flows}
 
 -- 1. The refusals of reading
 
@@ -137,12 +137,7 @@ module _ (P : ℕ → ℕ → Trace → Trace → Type 0) (kept : KeptOfTwo P) w
       by-span (Span.Refused x) e = kept .refused 0 (length s) x (rw (list-refusal s x e) short)
 
   listed-holds : (f g : Reader) (j k : Reading) → HoldsRecord f g → Holds j k → Holds (listed f j) (listed g k)
-  unfolding listedAt pieceAt
-  listed-holds f g j k r h s = rw (as-piece f j (listOf s), as-piece g k (listOf s)) (piece-holds (records f) (records g) j k (records-hold f g r) h s)
-    where
-      as-piece : (x : Reader) (y : Reading) (z : Span) → listedAt z x y s ≡ pieceAt z (records x) y s
-      as-piece x y (Span.Bytes n) = refl
-      as-piece x y (Span.Refused w) = refl
+  listed-holds f g j k r h = piece-holds (records f) (records g) j k (records-hold f g r) h
 
   named-holds : (j k : Reading) → Holds j k → Holds (named j) (named k)
   unfolding namedAt

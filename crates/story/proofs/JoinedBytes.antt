@@ -16,11 +16,11 @@ use Rattle.fields.specs.Bytes.{Head, Span, pick, le32At, headOf, listOf, nameOf
 use Rattle.fields.proofs.Laws.{head-fits, list-fits, name-fits}
 use Rattle.names.specs.Words.{each}
 use Rattle.records.specs.Trace.{Record, met, well, ends}
-use Rattle.records.specs.Grammar.{Reading, repeat, nodes}
+use Rattle.records.specs.Grammar.{Reading, repeat, nodes, piece}
 use Rattle.story.specs.Story.{Name}
 use Rattle.records.specs.Items.{itemsAs, itemsIn}
 use Rattle.story.specs.Headings.{reachAt, namesReach, countedReach}
-use Rattle.story.specs.Flows.{names, piece, namesN, namesIn, countedIn, part, piecesAt, piecesN, piecesIn}
+use Rattle.story.specs.Flows.{names, namesN, namesIn, countedIn, part, piecesAt, piecesN, piecesIn}
 use Rattle.story.specs.Whole.{Joined, Sized, IsName, AreCounted, IsRecord, withInside, AreNodes, IsList}
 use Rattle.story.proofs.Reaches.{names-fit, counted-read, counted-fits}
 use Rattle.story.proofs.Readable.{names-front, names-rest, piece-first, piece-rest, piece-none-left}

@@ -14,14 +14,14 @@ use Rattle.names.specs.Words.{Sorted, only, each}
 use Rattle.names.proofs.Bools.{is-true}
 use Rattle.names.proofs.Lists.{of-only, of-each, sorted-append, sorted-each, sorted-only}
 use Rattle.records.specs.Trace.{Record, met, Ending, well, refused, ends}
-use Rattle.records.specs.Grammar.{Reading, repeat, ending, nodes}
+use Rattle.records.specs.Grammar.{Reading, repeat, ending, nodes, piece}
 use Rattle.records.proofs.Places.{lies-within}
 use Rattle.story.specs.declared.Sections.{Sections}
 use Rattle.story.specs.declared.Heading.{Heading}
 use Rattle.records.specs.Items.{Item, nameIn, itemOf, itemsAs, itemsIn}
 use Rattle.story.specs.Story.{Name, Stitch, Flow, Story, ownName}
 use Rattle.story.specs.Headings.{countedReach}
-use Rattle.story.specs.Flows.{names, piece, stitch, flow, flows, namesIn, countedIn, part, piecesAt, piecesN, piecesIn, stitchIn, flowIn, flowsIn, stitches}
+use Rattle.story.specs.Flows.{names, stitch, flow, flows, namesIn, countedIn, part, piecesAt, piecesN, piecesIn, stitchIn, flowIn, flowsIn, stitches}
 use Rattle.story.specs.File.{storyIn}
 use Rattle.story.proofs.Reaches.{counted-fits}
 use Rattle.story.proofs.Unfolding.{titled-in, flow-in}

@@ -8,24 +8,22 @@ use Rattle.fields.specs.declared.Refusal.{Refusal}
 use Rattle.fields.specs.declared.Reach.{Reach}
 use Rattle.fields.specs.declared.Reach.the-variants as reach
 use Rattle.fields.specs.Bytes.{listOf, spanReach}
-use Rattle.fields.proofs.Laws.{span-to, span-refused, to-end}
 use Rattle.records.specs.Trace.{andThen, shift}
-use Rattle.records.specs.Grammar.{Reading, nothing, repeat, nodes}
+use Rattle.records.specs.Grammar.{Reading, nothing, repeat, nodes, piece}
 use Rattle.story.specs.declared.Heading.{Heading}
 use Rattle.story.specs.declared.HeadingRead.{HeadingRead}
 use Rattle.story.specs.declared.HeadingRead.the-variants as heading
 use Rattle.story.specs.Headings.{headingOf}
-use Rattle.story.specs.Flows.{titled, pieceAt, piece, part, titleEnd}
+use Rattle.story.specs.Flows.{titled, part, titleEnd}
 use Rattle.records.specs.declared.PieceRead.{PieceRead}
 use Rattle.records.specs.declared.PieceRead.the-variants as piece-read
 use Rattle.records.specs.declared.Walk.{Walk}
 use Rattle.records.specs.declared.Walk.the-variants as walk
 use Rattle.records.specs.Work.{St, st, Visitor, run, Told, ToldTo}
 use Rattle.records.proofs.Traces.{then-done, refuse-then, shift-done, run-shift}
-use Rattle.records.proofs.Readings.{repeat-none, repeat-step}
-use Rattle.records.proofs.Walking.{told-refused, told-done, then-on, then-else}
+use Rattle.records.proofs.Readings.{repeat-none, repeat-step, piece-local}
+use Rattle.records.proofs.Walking.{told-refused, told-done, sized-refused, sized-on, sized-else}
 use Rattle.records.proofs.PiecesRead.{piece-answers, piece-answers-refused, piece-on, piece-else, piece-within}
-use Rattle.story.proofs.Pieces.{piece-local}
 use Rattle.story.proofs.Reaches.{heading-laid}
 use Rattle.story.proofs.Titled.{titleTrace, titled-trace}
 
@@ -81,31 +79,7 @@ module _ (v : Visitor St) (b : ℕ) (s₀ : St) where
           let to = titleEnd (headingOf s) in
           piece-else v b s₀ (titled nothing s) to g (shift to (k (drop to s))) (titled k s) (titled-then k)
 
-  -- 2. A piece behind its length
-
-  sized-refused : (g k : Reading) (s : List ℕ) (x : Refusal) {r : Reach} → r ≡ spanReach 4 (listOf s) → r ≡ reach.Refused x
-      → Told (run v b s₀ (piece g k s)) (walk.Refused x) (s₀ .out)
-  unfolding pieceAt
-  sized-refused g k s x e q = told-refused v b s₀ (piece g k s) x (rw (span-refused 4 (listOf s) e x q))
-
-  module _ (g k : Reading) (s : List ℕ) (to : ℕ) {r : Reach} {w : Walk} {o : List ℕ} (e : r ≡ spanReach 4 (listOf s)) (q : r ≡ reach.To to)
-      (f : Told (run v (b + 4) s₀ (g (take (to - 4) (drop 4 s)))) w o) where
-    sized-at : piece g k s ≡ andThen (shift 4 (g (take (to - 4) (drop 4 s)))) (shift to (k (drop to s)))
-    unfolding pieceAt
-    sized-at =
-        let h = span-to 4 (listOf s) e to q in
-        rw (h .0, h .1)
-
-    in-sized : Told (run v b s₀ (shift 4 (g (take (to - 4) (drop 4 s))))) w o
-    in-sized = rw (run-shift v b 4 s₀ (g (take (to - 4) (drop 4 s)))) f
-
-    sized-on : (m : ℕ) → w ≡ walk.Done m → run v b s₀ (piece g k s) ≡ run v (b + to) (st o m) (k (take (length s - to) (drop to s)))
-    sized-on m z = rw (to-end to s, sized-at) (then-on v b s₀ (shift 4 (g (take (to - 4) (drop 4 s)))) (k (drop to s)) to m in-sized z)
-
-    sized-else : {x : Refusal} → w ≡ walk.Refused x → Told (run v b s₀ (piece g k s)) w o
-    sized-else z = rw sized-at (then-else v b s₀ (shift 4 (g (take (to - 4) (drop 4 s)))) (shift to (k (drop to s))) in-sized z)
-
-  -- 3. Such pieces to the end
+  -- 2. Pieces behind their lengths, to the end
 
   module _ (g : Reading) (s : List ℕ) where
     pub pieces-none : length s ≤ 0 → Told (run v b s₀ (repeat (piece g) s)) (walk.Done (s₀ .n)) (s₀ .out)
@@ -113,11 +87,11 @@ module _ (v : Visitor St) (b : ℕ) (s₀ : St) where
 
     module _ (some : 0 < length s) {r : Reach} (e : r ≡ spanReach 4 (listOf s)) where
       pub pieces-refused : (x : Refusal) → r ≡ reach.Refused x → Told (run v b s₀ (repeat (piece g) s)) (walk.Refused x) (s₀ .out)
-      pieces-refused x q = rw (repeat-step (piece g) (piece-local g) s some) (sized-refused g (repeat (piece g)) s x e q)
+      pieces-refused x q = rw (repeat-step (piece g) (piece-local g) s some) (sized-refused v b s₀ g (repeat (piece g)) s x e q)
 
       module _ (to : ℕ) {w : Walk} {o : List ℕ} (q : r ≡ reach.To to) (f : Told (run v (b + 4) s₀ (g (take (to - 4) (drop 4 s)))) w o) where
         pub pieces-on : (m : ℕ) → w ≡ walk.Done m → run v b s₀ (repeat (piece g) s) ≡ run v (b + to) (st o m) (repeat (piece g) (take (length s - to) (drop to s)))
-        pieces-on m z = rw (repeat-step (piece g) (piece-local g) s some) (sized-on g (repeat (piece g)) s to e q f m z)
+        pieces-on m z = rw (repeat-step (piece g) (piece-local g) s some) (sized-on v b s₀ g (repeat (piece g)) s to m e q f z)
 
         pub pieces-else : {x : Refusal} → w ≡ walk.Refused x → Told (run v b s₀ (repeat (piece g) s)) w o
-        pieces-else z = rw (repeat-step (piece g) (piece-local g) s some) (sized-else g (repeat (piece g)) s to e q f z)
+        pieces-else z = rw (repeat-step (piece g) (piece-local g) s some) (sized-else v b s₀ g (repeat (piece g)) s to e q f z)

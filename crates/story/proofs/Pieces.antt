@@ -10,9 +10,9 @@ use Rattle.fields.specs.declared.Reach.the-variants as reach
 use Rattle.fields.specs.Bytes.{Span, listOf, nameOf, spanReach}
 use Rattle.fields.proofs.Laws.{span-to}
 use Rattle.records.specs.Trace.{shift, well, refused, ends}
-use Rattle.records.specs.Grammar.{Reading, repeat, namedAt, named}
-use Rattle.records.proofs.Readings.{Local, repeat-none, repeat-step}
-use Rattle.story.specs.Flows.{pieceAt, piece, names}
+use Rattle.records.specs.Grammar.{Reading, repeat, namedAt, named, pieceAt, piece}
+use Rattle.records.proofs.Readings.{Local, repeat-none, repeat-step, piece-local}
+use Rattle.story.specs.Flows.{names}
 use Rattle.story.proofs.Endings.{thenEnds, ends-then, ends-shift}
 
 -- 1. Names
@@ -48,22 +48,14 @@ module _ (s : List ℕ) where
 -- 2. Pieces
 
 module _ (g : Reading) where
-  pub piece-local : Local (piece g)
-  unfolding Local pieceAt
-  piece-local s j k e = by-span (listOf s)
-    where
-      by-span : (r : Span) → pieceAt r g j s ≡ pieceAt r g k s
-      by-span (Span.Bytes n) = rw (e (4 + n) (omega arith))
-      by-span (Span.Refused x) = refl
-
   module _ (s : List ℕ) where
     pub pieces-end-refused : {x : Refusal} {r : Span} → 0 < length s → r ≡ listOf s → r ≡ Span.Refused x → ends (repeat (piece g) s) ≡ refused x
     unfolding pieceAt ends
-    pieces-end-refused h p q = rw (repeat-step (piece g) piece-local s h, ← p, q)
+    pieces-end-refused h p q = rw (repeat-step (piece g) (piece-local g) s h, ← p, q)
 
     -- the ending of the first piece, or that of those after it
     pub pieces-step : (n : ℕ) {r : Span} → 0 < length s → r ≡ listOf s → r ≡ Span.Bytes n
         → ends (repeat (piece g) s) ≡ thenEnds (ends (g (take n (drop 4 s)))) (ends (repeat (piece g) (drop (4 + n) s)))
     unfolding pieceAt
     pieces-step n h p q =
-        rw (repeat-step (piece g) piece-local s h, ← p, q, ends-then (shift 4 (g (take n (drop 4 s)))) (shift (4 + n) (repeat (piece g) (drop (4 + n) s))), ends-shift 4 (g (take n (drop 4 s))), ends-shift (4 + n) (repeat (piece g) (drop (4 + n) s)))
+        rw (repeat-step (piece g) (piece-local g) s h, ← p, q, ends-then (shift 4 (g (take n (drop 4 s)))) (shift (4 + n) (repeat (piece g) (drop (4 + n) s))), ends-shift 4 (g (take n (drop 4 s))), ends-shift (4 + n) (repeat (piece g) (drop (4 + n) s)))

@@ -10,7 +10,7 @@ use Rattle.fields.specs.declared.FlagRead.the-variants as flag
 use Rattle.fields.specs.Bytes.{Span, listOf, nameOf, flagOf}
 use Rattle.fields.proofs.Laws.{list-fits, name-fits, off-fits, on-fits}
 use Rattle.records.specs.Trace.{shift, Ending, well, refused, ends}
-use Rattle.records.specs.Grammar.{Reading, repeat, ending, nodes}
+use Rattle.records.specs.Grammar.{Reading, repeat, ending, nodes, piece}
 use Rattle.story.specs.declared.Sections.{Sections}
 use Rattle.story.specs.declared.Opened.{Opened}
 use Rattle.story.specs.declared.Opened.the-variants as opened
@@ -18,7 +18,7 @@ use Rattle.story.specs.declared.Heading.{Heading}
 use Rattle.story.specs.declared.HeadingRead.{HeadingRead}
 use Rattle.story.specs.declared.HeadingRead.the-variants as heading
 use Rattle.story.specs.Headings.{headingOf}
-use Rattle.story.specs.Flows.{names, titled, piece, stitch, flow, flows, part, stitches}
+use Rattle.story.specs.Flows.{names, titled, stitch, flow, flows, part, stitches}
 use Rattle.story.specs.File.{InOrder, openedOf, sectionsRead, readEnded, readAt, readOf}
 use Rattle.story.proofs.Endings.{first-well, second-well, both-well, shift-well}
 use Rattle.story.proofs.Reaches.{Laid, heading-laid}

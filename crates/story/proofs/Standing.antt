@@ -1,22 +1,20 @@
 -- Where the records of a whole file stand: their places rise from the first to the last, and the bytes at their places are theirs. Assumes nothing.
 use mathlib.Core.Path.{_≡_, refl, ap, subst}
 use mathlib.Core.List.{List, [], _∷_, map, List·Memᴰ, Memᴰ·of-map}
-use Prim.Native.Nat.{ℕ, _+_, _-_, _≤_, _<_}
+use Prim.Native.Nat.{ℕ, _+_, _-_, _<_}
 use native.Mathlib.Omega.{arith}
 use lib.ListN.{length, take, drop}
-use Rattle.fields.specs.Bytes.{Span, listOf}
-use Rattle.fields.proofs.Laws.{list-fits}
 use Rattle.names.specs.Words.{Sorted}
 use Rattle.records.specs.Trace.{andThen, shift, Record, met, Ending, well, refused, ends}
-use Rattle.records.specs.Grammar.{Reading, repeat, ending, nodes}
+use Rattle.records.specs.Grammar.{Reading, repeat, ending, nodes, piece}
 use Rattle.records.specs.Stands.{Stands}
-use Rattle.records.proofs.Places.{Placed, placed-wider, placed-then, Places, rest-placed, part-placed, ending-places, repeat-places, flagged-places, nodes-places, met-placed, met-rising}
+use Rattle.records.proofs.Places.{Placed, placed-wider, placed-then, Places, rest-placed, part-placed, ending-places, repeat-places, piece-places, flagged-places, nodes-places, met-placed, met-rising}
 use Rattle.story.specs.declared.Sections.{Sections}
 use Rattle.story.specs.declared.HeadingRead.{HeadingRead}
 use Rattle.story.specs.declared.HeadingRead.the-variants as heading
 use Rattle.records.specs.Items.{Item, itemAs, itemOf}
 use Rattle.story.specs.Headings.{headingOf}
-use Rattle.story.specs.Flows.{names, pieceAt, piece, titled, stitch, stitches, flow, flows, part}
+use Rattle.story.specs.Flows.{names, titled, stitch, stitches, flow, flows, part}
 use Rattle.story.specs.File.{sectionsRead, storyIn, InOrder}
 use Rattle.story.proofs.Reaches.{heading-laid}
 use Rattle.story.proofs.Places.{ItemBefore}
@@ -38,18 +36,6 @@ title-places k g s (heading.Refused x) e = tt
 
 pub titled-places : (k : Reading) → Places k → Places (titled k)
 titled-places k g s = rw (titled-trace k s) (title-places k g s (headingOf s) refl)
-
-pub piece-places : (g k : Reading) → Places g → Places k → Places (piece g k)
-unfolding pieceAt Placed
-piece-places g k f h s = by-span (listOf s) refl
-  where
-    by-span : (x : Span) → listOf s ≡ x → Placed s 0 (length s) (pieceAt x g k s)
-    by-span (Span.Bytes n) e =
-        let fits : 4 + n ≤ length s = list-fits s n refl e in
-        let t = g (take n (drop 4 s)) in
-        placed-then s (shift 4 t) (shift (4 + n) (k (drop (4 + n) s))) (omega arith) fits
-        (placed-wider s (shift 4 t) (omega arith) (omega arith) (part-placed 4 n s g f fits)) (rest-placed (4 + n) s k h fits)
-    by-span (Span.Refused x) e = tt
 
 pub pieces-places : (g : Reading) → Places g → Places (repeat (piece g))
 pieces-places g f = repeat-places (piece g) (λ k h. piece-places g k f h)

@@ -11,13 +11,13 @@ use Rattle.fields.specs.declared.FlagRead.the-variants as flag
 use Rattle.fields.specs.Bytes.{Span, listOf, flagOf}
 use Rattle.names.specs.Words.{each}
 use Rattle.records.specs.Trace.{Trace, andThen, shift, met, Ending, well, refused, ends}
-use Rattle.records.specs.Grammar.{Reading, repeatN, repeat, ending, flaggedAt, nodes}
+use Rattle.records.specs.Grammar.{Reading, repeatN, repeat, ending, flaggedAt, nodes, pieceAt, piece}
 use Rattle.story.specs.declared.Sections.{Sections}
 use Rattle.story.specs.declared.HeadingRead.{HeadingRead}
 use Rattle.story.specs.declared.HeadingRead.the-variants as heading
 use Rattle.records.specs.Items.{Item, itemOf, itemsAs, itemsIn}
 use Rattle.story.specs.Headings.{headingOf}
-use Rattle.story.specs.Flows.{names, pieceAt, piece, titled, stitch, stitches, flow, flows, part, titledAt, titledIn, piecesAt, piecesN, piecesIn, stitchIn, titleEnd, flowIn, flowsIn}
+use Rattle.story.specs.Flows.{names, titled, stitch, stitches, flow, flows, part, titledAt, titledIn, piecesAt, piecesN, piecesIn, stitchIn, titleEnd, flowIn, flowsIn}
 use Rattle.story.specs.File.{sectionsRead, storyIn}
 use Rattle.story.proofs.Endings.{both-well, shift-well}
 use Rattle.records.specs.Work.{itemsOf}

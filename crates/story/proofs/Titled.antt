@@ -15,7 +15,7 @@ use Rattle.fields.specs.declared.Reach.{Reach}
 use Rattle.fields.specs.declared.Reach.the-variants as reach
 use Rattle.fields.specs.Bytes.{Span, pick, listOf, nameOf}
 use Rattle.records.specs.Trace.{Trace, done, refuse, andThen, shift, Ending, well, refused, ends}
-use Rattle.records.specs.Grammar.{Reading, Reader, namedAt, named, listedAt, listed, recordOf, nodes, records, repeatN, repeat}
+use Rattle.records.specs.Grammar.{Reading, Reader, namedAt, named, pieceAt, listed, recordOf, nodes, records, repeatN, repeat}
 use Rattle.records.proofs.Traces.{shift-then, shift-shift}
 use Rattle.story.specs.declared.HeadingRead.{HeadingRead}
 use Rattle.story.specs.declared.HeadingRead.the-variants as heading
@@ -64,8 +64,8 @@ counted-trace k s at = by-test (ltb at (length s)) refl
 abbrev body : Reader
 body = recordOf 64 Node
 
-list-trace : (k : Reading) (s : List ℕ) (params marks list : ℕ) (r : Span) → shift list (listedAt r body k (drop list s)) ≡ titleTrace (listAt params marks list r) k s
-unfolding listedAt listAt titleTrace nodes part shift
+list-trace : (k : Reading) (s : List ℕ) (params marks list : ℕ) (r : Span) → shift list (pieceAt r (records body) k (drop list s)) ≡ titleTrace (listAt params marks list r) k s
+unfolding pieceAt listAt titleTrace nodes part shift
 list-trace k s params marks list (Span.Bytes n) =
     rw (shift-then list (shift 4 (records body (take n (drop 4 (drop list s))))) (shift (4 + n) (k (drop (4 + n) (drop list s)))), shift-shift list 4 (records body (take n (drop 4 (drop list s)))), shift-shift list (4 + n) (k (drop (4 + n) (drop list s))), drop-drop 4 list s, drop-drop (4 + n) list s, ← add-assoc list 4 n, add-sub-cancel-left (list + 4) n)
 list-trace k s params marks list (Span.Refused x) = refl

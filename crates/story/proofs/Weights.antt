@@ -21,13 +21,13 @@ use Rattle.fields.specs.Bytes.{Head, Span, pick, headOf, listOf, nameOf, flagOf
 use Rattle.fields.specs.Kinds.{kindOf, nodeKinds, nodeKind, condKinds, condKind, exprKinds, exprKind}
 use Rattle.fields.proofs.Laws.{head-fits, list-fits, name-fits, off-fits, on-fits}
 use Rattle.records.specs.Trace.{Trace, done, refuse, emit, andThen, shift, met, Ending, well, refused, ends}
-use Rattle.records.specs.Grammar.{Reading, Reader, frontAt, front, ending, repeatN, repeat, records, exact, listedAt, listed, namedAt, named, flaggedAt, flagged, moded, last, orElse, arms, options, tested, branch, bodyOf, whole, tooDeep, recordOf, nodes}
+use Rattle.records.specs.Grammar.{Reading, Reader, frontAt, front, ending, repeatN, repeat, records, exact, pieceAt, listed, namedAt, named, flaggedAt, flagged, moded, last, orElse, arms, options, tested, branch, bodyOf, whole, tooDeep, recordOf, nodes, piece}
 use Rattle.story.specs.declared.Sections.{Sections}
 use Rattle.story.specs.declared.HeadingRead.{HeadingRead}
 use Rattle.story.specs.declared.HeadingRead.the-variants as heading
 use Rattle.records.specs.Items.{Kind, plain, temp, divert, tunnel, thread, call, choice, gather, code, nodeSorts, condSorts, exprSorts, argumentSorts, sortOf, whatOf, itemAs, itemOf}
 use Rattle.story.specs.Headings.{headingOf}
-use Rattle.story.specs.Flows.{names, pieceAt, piece, titled, stitch, stitches, flow, flows, part}
+use Rattle.story.specs.Flows.{names, titled, stitch, stitches, flow, flows, part}
 use Rattle.story.specs.File.{sectionsRead, storyIn, InOrder}
 use Rattle.story.proofs.Reaches.{heading-laid}
 use Rattle.story.proofs.Parts.{part-length}
@@ -188,17 +188,19 @@ unfolding exact
 exact-weighs zero f g s = ending-weighs s
 exact-weighs (suc n) f g s = front-weighs f (exact n f) g (exact-weighs n f g) s
 
-listed-weighs : (f : Reader) (k : Reading) → WeighsRecord f → Weighs 0 k → Weighs 0 (listed f k)
-unfolding listedAt ends
-listed-weighs f k g h s z = omega (arith, by-span (listOf s) refl z)
+piece-weighs : (g k : Reading) → Weighs 0 g → Weighs 0 k → Weighs 0 (piece g k)
+unfolding pieceAt ends
+piece-weighs g k f h s z = omega (arith, by-span (listOf s) refl z)
   where
-    by-span : (x : Span) → listOf s ≡ x → ends (listedAt x f k s) ≡ well → cost (listedAt x f k s) ≤ length s
+    by-span : (x : Span) → listOf s ≡ x → ends (pieceAt x g k s) ≡ well → cost (pieceAt x g k s) ≤ length s
     by-span (Span.Bytes n) e z =
         let fits : 4 + n ≤ length s = list-fits s n refl e in
-        let t = records f (take n (drop 4 s)) in
-        let u = k (drop (4 + n) s) in
-        two-parts 4 (4 + n) t u (length s) z (λ x y. omega (arith, records-weigh f g (take n (drop 4 s)) x, h (drop (4 + n) s) y, length-take n (drop 4 s), length-drop (4 + n) s))
+        two-parts 4 (4 + n) (g (take n (drop 4 s))) (k (drop (4 + n) s)) (length s) z
+        (λ x y. omega (arith, f (take n (drop 4 s)) x, h (drop (4 + n) s) y, length-take n (drop 4 s), length-drop (4 + n) s))
     by-span (Span.Refused x) e z = let y : _≡_ {A = ℕ} 0 1 = cc in absurd (omega arith)
+
+listed-weighs : (f : Reader) (k : Reading) → WeighsRecord f → Weighs 0 k → Weighs 0 (listed f k)
+listed-weighs f k g h = piece-weighs (records f) k (records-weigh f g) h
 
 named-weighs : (k : Reading) → Weighs 0 k → Weighs 1 (named k)
 unfolding namedAt ends
@@ -294,17 +296,6 @@ title-weighs k g s (heading.Refused x) e z = let y : _≡_ {A = ℕ} 0 1 = cc in
 titled-weighs : (k : Reading) → Weighs 0 k → Weighs 0 (titled k)
 titled-weighs k g s z =
     let e = titled-trace k s in omega (arith, ap cost e, title-weighs k g s (headingOf s) refl (sym (ap ends e) ∙ z))
-
-piece-weighs : (g k : Reading) → Weighs 0 g → Weighs 0 k → Weighs 0 (piece g k)
-unfolding pieceAt ends
-piece-weighs g k f h s z = omega (arith, by-span (listOf s) refl z)
-  where
-    by-span : (x : Span) → listOf s ≡ x → ends (pieceAt x g k s) ≡ well → cost (pieceAt x g k s) ≤ length s
-    by-span (Span.Bytes n) e z =
-        let fits : 4 + n ≤ length s = list-fits s n refl e in
-        two-parts 4 (4 + n) (g (take n (drop 4 s))) (k (drop (4 + n) s)) (length s) z
-        (λ x y. omega (arith, f (take n (drop 4 s)) x, h (drop (4 + n) s) y, length-take n (drop 4 s), length-drop (4 + n) s))
-    by-span (Span.Refused x) e z = let y : _≡_ {A = ℕ} 0 1 = cc in absurd (omega arith)
 
 pieces-weigh : (g : Reading) → Weighs 0 g → Weighs 0 (repeat (piece g))
 pieces-weigh g f = repeat-weighs (piece g) (λ k h. piece-weighs g k f h)

@@ -5,12 +5,12 @@ use Prim.Native.Nat.{ℕ}
 use Rattle.fields.specs.Bytes.{headOf, listOf, nameOf, flagOf}
 use Rattle.fields.specs.Kinds.{nodeKind, exprKind, kindOf}
 use Rattle.records.specs.Trace.{andThen, shift, met, ends}
-use Rattle.records.specs.Grammar.{frontAt, ending, repeatN, repeat, exact, listedAt, namedAt, flaggedAt, bodyOf, whole, recordOf, nodes}
+use Rattle.records.specs.Grammar.{frontAt, ending, repeatN, repeat, exact, pieceAt, namedAt, flaggedAt, bodyOf, whole, recordOf, nodes}
 use Rattle.story.specs.declared.Sections.{Sections}
 use Rattle.story.specs.declared.Opened.the-variants as opened
 use Rattle.records.specs.Items.{Item, sortOf, itemAs, itemOf, itemsAs, itemsIn}
 use Rattle.story.specs.Headings.{reachAt, namesReach, countedReach, listAt, marksAt, paramsAt, nameThen, headingOf}
-use Rattle.story.specs.Flows.{names, namesThen, counted, pieceAt, titled, stitch, flow, flows, part, titledAt, titledIn, piecesAt, piecesN, piecesIn, stitchIn, titleEnd, flowIn, flowsIn}
+use Rattle.story.specs.Flows.{names, namesThen, counted, titled, stitch, flow, flows, part, titledAt, titledIn, piecesAt, piecesN, piecesIn, stitchIn, titleEnd, flowIn, flowsIn}
 use Rattle.story.specs.File.{marked, startAt, openedOf, sectionsRead, readEnded, readAt, readOf, storyIn}
 use Rattle.story.specs.Whole.{Whole}
 use Rattle.story.specs.Story.{flowItems, storyItems}
@@ -51,7 +51,7 @@ record Example : Type 0 where
   places : map (λ (i : Item). i .place) (storyItems (storyIn sections file)) ≡ 4 ∷ 9 ∷ 29 ∷ 46 ∷ []
 
 told : readOf file ≡ opened.At sections
-unfolding file names-bytes root-bytes flow-bytes stitch-bytes trailer-bytes readOf readAt openedOf marked startAt sectionsRead readEnded names flows nodes part repeat repeatN frontAt headOf nameOf listOf flagOf namedAt listedAt flaggedAt kindOf nodeKind exprKind bodyOf exact ending whole recordOf namesThen counted pieceAt titled stitch flow andThen shift ends
+unfolding file names-bytes root-bytes flow-bytes stitch-bytes trailer-bytes readOf readAt openedOf marked startAt sectionsRead readEnded names flows nodes part repeat repeatN frontAt headOf nameOf listOf flagOf namedAt pieceAt flaggedAt kindOf nodeKind exprKind bodyOf exact ending whole recordOf namesThen counted titled stitch flow andThen shift ends
 told = refl
 
 placed : map (λ (i : Item). i .place) (storyItems (storyIn sections file)) ≡ 4 ∷ 9 ∷ 29 ∷ 46 ∷ []

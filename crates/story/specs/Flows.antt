@@ -6,8 +6,8 @@ use lib.Dec.{eqb}
 use Rattle.fields.specs.declared.Refusal.the-variants.{Short}
 use Rattle.fields.specs.declared.Role.the-variants.{Node}
 use Rattle.fields.specs.Bytes.{Span, listOf}
-use Rattle.records.specs.Trace.{refuse, andThen, shift}
-use Rattle.records.specs.Grammar.{Reading, repeat, named, flagged, listed, ending, recordOf}
+use Rattle.records.specs.Trace.{refuse, shift}
+use Rattle.records.specs.Grammar.{Reading, repeat, named, flagged, piece, listed, ending, recordOf}
 use Rattle.story.specs.declared.HeadingRead.{HeadingRead}
 use Rattle.story.specs.declared.HeadingRead.the-variants as heading
 use Rattle.story.specs.Story.{Name, Stitch, Flow}
@@ -29,15 +29,6 @@ namesThen (suc n) k s = named (namesThen n k) s
 unfoldable pub counted : Reading → Reading
 counted k [] = refuse Short
 counted k (x ∷ s) = shift 1 (namesThen x k s)
-
--- 32-bit length and a piece by g, then what follows it by k
-unfoldable pub pieceAt : Span → Reading → Reading → Reading
-pieceAt (Span.Bytes n) g k s = andThen (shift 4 (g (take n (drop 4 s)))) (shift (4 + n) (k (drop (4 + n) s)))
-pieceAt (Span.Refused r) g k s = refuse r
-
--- the same, by the length that the bytes have
-abbrev pub piece : Reading → Reading → Reading
-piece g k s = pieceAt (listOf s) g k s
 
 -- name, parameters, divert parameters, node list, then what follows by k
 unfoldable pub titled : Reading → Reading

@@ -4,8 +4,8 @@ use Prim.Native.Nat.{_+_, _≤_}
 use native.Mathlib.Omega.{arith}
 use lib.ListN.{length}
 use Rattle.fields.proofs.Laws.{list-within}
-use Rattle.records.specs.Grammar.{repeat}
-use Rattle.story.specs.Flows.{piece, flow, flows}
+use Rattle.records.specs.Grammar.{repeat, piece}
+use Rattle.story.specs.Flows.{flow, flows}
 use Rattle.records.specs.Work.{run, st, keeping}
 use Rattle.story.proofs.PieceWalks.{pieces-refused, pieces-on, pieces-else, pieces-none}
 use borrow.Author.Needs.{needs}

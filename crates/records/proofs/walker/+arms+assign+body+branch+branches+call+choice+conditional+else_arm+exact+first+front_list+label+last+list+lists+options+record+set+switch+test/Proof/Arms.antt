@@ -4,9 +4,9 @@ use native.Mathlib.Omega.{arith}
 use lib.ListN.{length}
 use Rattle.fields.specs.declared.Role.the-variants.{Branch}
 use Rattle.fields.proofs.Laws.{list-within}
-use Rattle.records.specs.Grammar.{recordOf, arms, orElse}
+use Rattle.records.specs.Grammar.{recordOf, arms, orElse, records}
 use Rattle.records.specs.Work.{st, keeping}
-use Rattle.records.proofs.Walking.{listed-refused, listed-else, listed-on}
+use Rattle.records.proofs.Walking.{sized-refused, sized-else, sized-on}
 use borrow.Author.Needs.{needs}
 use Rattle.records.proofs.walker.arms.Reads as walk-arms
 use Rattle.records.proofs.walker.+arms+assign+body+branch+branches+call+choice+conditional+else_arm+exact+first+front_list+label+last+list+lists+options+record+set+switch+test.Lts-arms as lts
@@ -20,7 +20,7 @@ module _ (t : ℕ) where
   unfolding arms
   refused c =
       let a = c .before .before .before .before .before .before .args in
-      listed-refused keeping (a .base) (st (a .out .now) (a .n)) (recordOf (a .left) Branch) (orElse (recordOf (a .left))) (a .s .now) (c .before .reach .given .0 .0) (c .before .before .before .read-list .ensures) (c .before .reach .given .1)
+      sized-refused keeping (a .base) (st (a .out .now) (a .n)) (records (recordOf (a .left) Branch)) (orElse (recordOf (a .left))) (a .s .now) (c .before .reach .given .0 .0) (c .before .before .before .read-list .ensures) (c .before .reach .given .1)
 
   sub-piece : lts.Need-sub-list (walk-arms-uses t) (walk-arms-at t) walk-arms.Post
   sub-piece c = fits c .0
@@ -42,7 +42,7 @@ module _ (t : ℕ) where
   inside-refused c =
       let a = c .before .before .before .before .before .before .before .before .before .before .before .before .before .args in
       let k = c .before .before .before .before .before .before .before .before .reach2 .given in
-      listed-else keeping (a .base) (st (a .out .now) (a .n)) (recordOf (a .left) Branch) (orElse (recordOf (a .left))) (a .s .now) (k .0 .0) (c .before .before .before .before .before .before .before .before .before .before .read-list .ensures) (k .1) (c .before .before .before .before .list .ensures) (c .enum-told .given .1)
+      sized-else keeping (a .base) (st (a .out .now) (a .n)) (records (recordOf (a .left) Branch)) (orElse (recordOf (a .left))) (a .s .now) (k .0 .0) (c .before .before .before .before .before .before .before .before .before .before .read-list .ensures) (k .1) (c .before .before .before .before .list .ensures) (c .enum-told .given .1)
 
   sub-rest : lts.Need-sub-else-arm (walk-arms-uses t) (walk-arms-at t) walk-arms.Post
   sub-rest c = omega (arith, fits (c .before .before .before .before .before .before .before .before))
@@ -64,7 +64,7 @@ module _ (t : ℕ) where
       let a = c .before .before .before .before .before .before .before .before .before .before .before .before .before .before .before .before .before .before .before .args in
       let k = c .before .before .before .before .before .before .before .before .before .before .before .before .before .before .reach2 .given in
       let w = c .before .before .before .before .before .before .w .given in
-      rw (listed-on keeping (a .base) (st (a .out .now) (a .n)) (recordOf (a .left) Branch) (orElse (recordOf (a .left))) (a .s .now) (k .0 .0) (w .0 .0) (c .before .before .before .before .before .before .before .before .before .before .before .before .before .before .before .before .read-list .ensures) (k .1) (c .before .before .before .before .before .before .before .before .before .before .list .ensures) (w .1)) (c .before .before .else-arm .ensures)
+      rw (sized-on keeping (a .base) (st (a .out .now) (a .n)) (records (recordOf (a .left) Branch)) (orElse (recordOf (a .left))) (a .s .now) (k .0 .0) (w .0 .0) (c .before .before .before .before .before .before .before .before .before .before .before .before .before .before .before .before .read-list .ensures) (k .1) (c .before .before .before .before .before .before .before .before .before .before .list .ensures) (w .1)) (c .before .before .else-arm .ensures)
 
   pub ok : {M : Type 1} → lts.Closed (walk-arms-uses t) (walk-arms-at t) walk-arms.Post M
   ok = lts.spec (walk-arms-uses t) (walk-arms-at t) walk-arms.Post (λ c κs. search needs) (λ c. search needs) (λ c. search needs) sub-piece part-start part-end add-4 piece-requires (λ c. search needs) (λ c. search needs) (λ c. search needs) inside-refused sub-rest part-rest (λ c. search needs) add-base rest-requires refused (λ c. search needs) rest

@@ -4,9 +4,9 @@ use mathlib.Core.Path.{refl}
 use native.Mathlib.Omega.{arith}
 use lib.ListN.{length}
 use Rattle.fields.proofs.Laws.{list-within}
-use Rattle.records.specs.Grammar.{recordOf, listed, nothing}
+use Rattle.records.specs.Grammar.{recordOf, listed, nothing, records}
 use Rattle.records.specs.Work.{run, st, keeping, listEnd}
-use Rattle.records.proofs.Walking.{listed-refused}
+use Rattle.records.proofs.Walking.{sized-refused}
 use Rattle.records.proofs.PiecesRead.{piece-answers-refused, list-answers, list-answers-refused}
 use borrow.Author.Needs.{needs}
 use Rattle.records.proofs.walker.front_list.Reads as walk-front-list
@@ -21,7 +21,7 @@ module _ (t : ℕ) where
   refused c =
       let a = c .before .before .before .before .before .before .args in
       let k = c .before .reach .given in
-      piece-answers-refused (run keeping (a .base) (st (a .out .now) (a .n)) (listed (recordOf (a .left) (a .role)) nothing (a .s .now))) (listEnd (a .s .now)) (listed-refused keeping (a .base) (st (a .out .now) (a .n)) (recordOf (a .left) (a .role)) nothing (a .s .now) (k .0 .0) (c .before .before .before .read-list .ensures) (k .1)) (k .0 .0) refl refl
+      piece-answers-refused (run keeping (a .base) (st (a .out .now) (a .n)) (listed (recordOf (a .left) (a .role)) nothing (a .s .now))) (listEnd (a .s .now)) (sized-refused keeping (a .base) (st (a .out .now) (a .n)) (records (recordOf (a .left) (a .role))) nothing (a .s .now) (k .0 .0) (c .before .before .before .read-list .ensures) (k .1)) (k .0 .0) refl refl
 
   sub-piece : lts.Need-sub-list (walk-front-list-uses t) (walk-front-list-at t) walk-front-list.Post
   sub-piece c = fits c .0
