@@ -1,5 +1,5 @@
 -- A piece read by a callee that answers the place after it: a record, a list, the test of a branch, a branch. Assumes nothing.
-use mathlib.Core.Path.{_≡_, refl, sym, ap, _∙_}
+use mathlib.Core.Path.{_≡_, refl, ap, _∙_}
 use mathlib.Core.List.{List}
 use Prim.Native.Nat.{ℕ, _+_, _-_, _≤_}
 use native.Mathlib.Omega.{arith}
@@ -14,14 +14,14 @@ use Rattle.fields.specs.declared.HeadRead.the-variants as head-read
 use Rattle.fields.specs.declared.FlagRead.{FlagRead}
 use Rattle.fields.specs.declared.FlagRead.the-variants as flag
 use Rattle.fields.specs.Bytes.{Head, Span, headOf, headRead, listOf, spanReach, flagOf}
-use Rattle.fields.proofs.Laws.{head-fits, list-fits, head-to, span-to, off-fits, on-fits, to-end}
+use Rattle.fields.proofs.Laws.{head-fits, list-fits, off-fits, on-fits, to-end}
 use Rattle.records.specs.declared.PieceRead.{PieceRead}
 use Rattle.records.specs.declared.PieceRead.the-variants as piece-read
 use Rattle.records.specs.declared.Walk.{Walk}
 use Rattle.records.specs.declared.Walk.the-variants as walk
 use Rattle.records.specs.Trace.{Trace, andThen, shift}
 use Rattle.records.specs.Grammar.{Reading, Reader, frontAt, front, nothing, records, pieceAt, listed, flaggedAt, tested, branch}
-use Rattle.records.specs.Work.{St, st, Ran, ended, broke, Visitor, run, walkOf, ranOut, pieceReadOf, Told, ToldTo, headEndOf, headEnd, listEndOf, listEnd, testEndOf, testEnd, branchEnd}
+use Rattle.records.specs.Work.{St, st, Ran, ended, broke, Visitor, run, walkOf, ranOut, pieceReadOf, Told, ToldTo, headPlace, headEnd, reachPlace, listEnd, testEndOf, testEnd, branchEnd}
 use Rattle.records.proofs.Readings.{front-then, branch-tested, branch-then}
 use Rattle.records.proofs.Walking.{then-on, then-else, front-alone, sized-alone, flagged-off, flagged-on, flagged-refused, told-done}
 
@@ -83,15 +83,15 @@ piece-within v b s₀ p to g n l fits some e m q =
 
 -- 2. The record at the front
 
-pub head-end : (s : List ℕ) (kind to : ℕ) {r : HeadRead} → r ≡ headRead (headOf s) → r ≡ head-read.To kind to → to ≡ headEnd s
-unfolding headEndOf
-head-end s kind to e q = let h = head-to (headOf s) e kind to q in rw (h .0) (sym (h .1))
+head-end : (s : List ℕ) (kind to : ℕ) {r : HeadRead} → r ≡ headRead (headOf s) → r ≡ head-read.To kind to → to ≡ headEnd s
+unfolding headPlace
+head-end s kind to e q = rw (← e, q)
 
 head-end-fits : (s : List ℕ) → headEnd s ≤ length s
-unfolding headEndOf
+unfolding headRead headPlace
 head-end-fits s = by-head (headOf s) refl
   where
-    by-head : (h : Head) → h ≡ headOf s → headEndOf h ≤ length s
+    by-head : (h : Head) → h ≡ headOf s → headPlace (headRead h) ≤ length s
     by-head (Head.Piece kind n) e = head-fits s kind n e refl
     by-head (Head.Refused r) e = omega arith
 
@@ -109,10 +109,10 @@ module _ (v : Visitor St) (b : ℕ) (s₀ : St) (f : Reader) (s : List ℕ) wher
 
   module _ {a : PieceRead} {o : List ℕ} (g : ToldTo (run v b s₀ (front f nothing s)) (headEnd s) a o) where
     pub first-fits : (e m : ℕ) → a ≡ piece-read.To e m → (5 ≤ e) × (e ≤ length s)
-    unfolding frontAt headEndOf run walkOf
+    unfolding frontAt headRead headPlace run walkOf
     first-fits = piece-within v b s₀ (front f nothing s) (headEnd s) g 5 (length s) (head-end-fits s) (λ m. by-head m (headOf s))
       where
-        by-head : (m : ℕ) (h : Head) → walk.Done m ≡ walkOf (run v b s₀ (frontAt h f nothing s)) → 5 ≤ headEndOf h
+        by-head : (m : ℕ) (h : Head) → walk.Done m ≡ walkOf (run v b s₀ (frontAt h f nothing s)) → 5 ≤ headPlace (headRead h)
         by-head m (Head.Piece kind n) z = omega arith
         by-head m (Head.Refused r) z = let y : _≡_ {A = ℕ} 0 1 = cc in absurd (omega arith)
 
@@ -125,14 +125,14 @@ module _ (v : Visitor St) (b : ℕ) (s₀ : St) (f : Reader) (s : List ℕ) wher
 -- 3. The list at the front
 
 list-end : (s : List ℕ) (to : ℕ) {r : Reach} → r ≡ spanReach 4 (listOf s) → r ≡ reach.To to → to ≡ listEnd s
-unfolding listEndOf
-list-end s to e q = let h = span-to 4 (listOf s) e to q in rw (h .0) (sym (h .1))
+unfolding reachPlace
+list-end s to e q = rw (← e, q)
 
 list-end-fits : (s : List ℕ) → listEnd s ≤ length s
-unfolding listEndOf
+unfolding spanReach reachPlace
 list-end-fits s = by-span (listOf s) refl
   where
-    by-span : (x : Span) → x ≡ listOf s → listEndOf x ≤ length s
+    by-span : (x : Span) → x ≡ listOf s → reachPlace (spanReach 4 x) ≤ length s
     by-span (Span.Bytes n) e = list-fits s n e refl
     by-span (Span.Refused r) e = omega arith
 
@@ -150,10 +150,10 @@ module _ (v : Visitor St) (b : ℕ) (s₀ : St) (f : Reader) (s : List ℕ) wher
 
   module _ {a : PieceRead} {o : List ℕ} (g : ToldTo (run v b s₀ (listed f nothing s)) (listEnd s) a o) where
     pub listed-fits : (e m : ℕ) → a ≡ piece-read.To e m → (4 ≤ e) × (e ≤ length s)
-    unfolding pieceAt listEndOf run walkOf
+    unfolding pieceAt spanReach reachPlace run walkOf
     listed-fits = piece-within v b s₀ (listed f nothing s) (listEnd s) g 4 (length s) (list-end-fits s) (λ m. by-span m (listOf s))
       where
-        by-span : (m : ℕ) (x : Span) → walk.Done m ≡ walkOf (run v b s₀ (pieceAt x (records f) nothing s)) → 4 ≤ listEndOf x
+        by-span : (m : ℕ) (x : Span) → walk.Done m ≡ walkOf (run v b s₀ (pieceAt x (records f) nothing s)) → 4 ≤ reachPlace (spanReach 4 x)
         by-span m (Span.Bytes n) z = omega arith
         by-span m (Span.Refused r) z = let y : _≡_ {A = ℕ} 0 1 = cc in absurd (omega arith)
 

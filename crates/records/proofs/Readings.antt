@@ -10,10 +10,10 @@ use Rattle.fields.specs.declared.Role.{Role}
 use Rattle.fields.specs.declared.Role.the-variants.{Branch, Visited}
 use Rattle.fields.specs.declared.FlagRead.{FlagRead}
 use Rattle.fields.specs.declared.FlagRead.the-variants as flag
-use Rattle.fields.specs.Bytes.{Head, Span, headOf, listOf, flagOf}
+use Rattle.fields.specs.Bytes.{Head, Span, headOf, headRead, listOf, spanReach, flagOf}
 use Rattle.records.specs.Trace.{done, andThen, shift}
 use Rattle.records.specs.Grammar.{Reading, Reader, frontAt, front, nothing, repeatN, repeat, exact, ending, records, pieceAt, piece, listed, flaggedAt, tested, branch}
-use Rattle.records.specs.Work.{headEndOf, headEnd, listEndOf, listEnd, testEndOf, testEnd, branchEnd}
+use Rattle.records.specs.Work.{headPlace, headEnd, reachPlace, listEnd, testEndOf, testEnd, branchEnd}
 use Rattle.records.proofs.Traces.{shift-then, shift-shift, then-assoc, then-done, done-then, refuse-then, shift-done}
 
 -- 1. Pieces to the end
@@ -88,13 +88,13 @@ exact-end many f s e = rw e
 
 -- 3. A piece, and what follows it
 
-pub front-then : (f : Reader) (k : Reading) (s : List ℕ) (h : Head) → frontAt h f k s ≡ andThen (frontAt h f nothing s) (shift (headEndOf h) (k (drop (headEndOf h) s)))
-unfolding frontAt headEndOf
+pub front-then : (f : Reader) (k : Reading) (s : List ℕ) (h : Head) → frontAt h f k s ≡ andThen (frontAt h f nothing s) (shift (headPlace (headRead h)) (k (drop (headPlace (headRead h)) s)))
+unfolding frontAt headRead headPlace
 front-then f k s (Head.Piece kind n) = rw (shift-done (5 + n), then-done (f kind (take n (drop 5 s))))
 front-then f k s (Head.Refused r) = sym (refuse-then r (shift 0 (k (drop 0 s))))
 
-piece-then : (g k : Reading) (s : List ℕ) (x : Span) → pieceAt x g k s ≡ andThen (pieceAt x g nothing s) (shift (listEndOf x) (k (drop (listEndOf x) s)))
-unfolding pieceAt listEndOf
+piece-then : (g k : Reading) (s : List ℕ) (x : Span) → pieceAt x g k s ≡ andThen (pieceAt x g nothing s) (shift (reachPlace (spanReach 4 x)) (k (drop (reachPlace (spanReach 4 x)) s)))
+unfolding pieceAt spanReach reachPlace
 piece-then g k s (Span.Bytes n) = rw (shift-done (4 + n), then-done (shift 4 (g (take n (drop 4 s)))))
 piece-then g k s (Span.Refused r) = sym (refuse-then r (shift 0 (k (drop 0 s))))
 

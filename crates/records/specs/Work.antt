@@ -1,4 +1,4 @@
--- Inner contract. A walk as it goes: the buffer, and how many records were kept and met so far.
+-- Inner contract. A walk as it goes: the buffer, and how many records were kept and met so far; and the places after pieces.
 use Prim.Native.Nat.{ℕ, _+_, _*_, _%_, _^_}
 use mathlib.Core.Path.{_≡_}
 use mathlib.Core.List.{List, [], _∷_, map}
@@ -9,9 +9,13 @@ use Rattle.fields.specs.declared.Role.{Role}
 use Rattle.fields.specs.declared.Body.the-variants.{Exprs}
 use Rattle.fields.specs.declared.Kinded.the-variants.{Known}
 use Rattle.fields.specs.Kinds.{kindOf}
+use Rattle.fields.specs.declared.Reach.{Reach}
+use Rattle.fields.specs.declared.Reach.the-variants as reach
+use Rattle.fields.specs.declared.HeadRead.{HeadRead}
+use Rattle.fields.specs.declared.HeadRead.the-variants as head-read
 use Rattle.fields.specs.declared.FlagRead.{FlagRead}
 use Rattle.fields.specs.declared.FlagRead.the-variants as flag
-use Rattle.fields.specs.Bytes.{Head, Span, pick, headOf, listOf, flagOf}
+use Rattle.fields.specs.Bytes.{pick, headOf, headRead, listOf, spanReach, flagOf}
 use Rattle.records.specs.Trace.{Trace, done, refuse, emit, met, Ending, well, refused, ends}
 use Rattle.records.specs.Items.{plain, code, is, Item, sortOf, itemOf}
 use Rattle.records.specs.declared.PieceRead.{PieceRead}
@@ -89,21 +93,23 @@ pub record ToldTo (x : Ran St) (to : ℕ) (a : PieceRead) (o : List ℕ) : Type 
   pub answer : a ≡ pieceReadOf to x
   pub written : o ≡ ranOut x
 
--- the place after the record at the front; 0 where it is refused, a place that no answer shows, here and below
-unfoldable pub headEndOf : Head → ℕ
-headEndOf (Head.Piece kind n) = 5 + n
-headEndOf (Head.Refused r) = 0
+-- the place that the head of a record shows; 0 where it is refused, a place that no answer shows, here and below
+unfoldable pub headPlace : HeadRead → ℕ
+headPlace (head-read.To kind e) = e
+headPlace (head-read.Refused r) = 0
 
+-- the place that a length shows
+unfoldable pub reachPlace : Reach → ℕ
+reachPlace (reach.To e) = e
+reachPlace (reach.Refused r) = 0
+
+-- the place after the record at the front of the bytes
 abbrev pub headEnd : List ℕ → ℕ
-headEnd s = headEndOf (headOf s)
+headEnd s = headPlace (headRead (headOf s))
 
--- the place after the list at the front
-unfoldable pub listEndOf : Span → ℕ
-listEndOf (Span.Bytes n) = 4 + n
-listEndOf (Span.Refused r) = 0
-
+-- the place after the list at the front of the bytes
 abbrev pub listEnd : List ℕ → ℕ
-listEnd s = listEndOf (listOf s)
+listEnd s = reachPlace (spanReach 4 (listOf s))
 
 -- the place after the test of a branch, a flag and an expression if it is 1
 unfoldable pub testEndOf : FlagRead → List ℕ → ℕ
@@ -111,6 +117,7 @@ testEndOf flag.Off s = 1
 testEndOf flag.On s = 1 + headEnd (drop 1 s)
 testEndOf (flag.Refused r) s = 0
 
+-- the same, by the flag that the bytes have
 abbrev pub testEnd : List ℕ → ℕ
 testEnd s = testEndOf (flagOf s) s
 
