@@ -15,7 +15,7 @@ use Rattle.records.specs.Grammar.{Reading, front, recordOf, bodyOf, exac
 use Rattle.records.specs.Items.{sortOf}
 use Rattle.records.specs.declared.PieceRead.the-variants as piece-read
 use Rattle.records.specs.declared.Walk.the-variants as walk
-use Rattle.records.specs.Work.{st, run, keeping, Told, ToldTo, headEnd, BareKind, Bare}
+use Rattle.records.specs.Work.{st, run, keeping, Told, pieceOf, ToldTo, headEnd, BareKind, Bare}
 use Rattle.records.proofs.Marks.{note-plain}
 use Rattle.records.proofs.PiecesRead.{first-answers}
 use Rattle.records.proofs.Walking.{record-on, told-done, front-on}
@@ -58,4 +58,5 @@ module _ (b : ℕ) (out : List ℕ) (n : ℕ) {next : ℕ} (more : next ≡ (n +
   -- the answer of a call that reads such a record
   pub bare-answers : (s : List ℕ) (kind to : ℕ) {r : HeadRead} → Bare role kind to left → r ≡ headRead (headOf s) → r ≡ head-read.To kind to
       → ToldTo (run keeping b (st out n) (front (recordOf left role) nothing s)) (headEnd s) (piece-read.To to next) out
-  bare-answers s kind to h e q = first-answers keeping b (st out n) (recordOf left role) s kind to e q (rw (none-inside to s (h .empty)) (bare-record kind to h)) next refl
+  unfolding pieceOf
+  bare-answers s kind to h e q = first-answers keeping b (st out n) (recordOf left role) s kind to {w = walk.Done next} e q (rw (none-inside to s (h .empty)) (bare-record kind to h)) refl

@@ -21,47 +21,37 @@ use Rattle.records.specs.declared.Walk.{Walk}
 use Rattle.records.specs.declared.Walk.the-variants as walk
 use Rattle.records.specs.Trace.{Trace, andThen, shift}
 use Rattle.records.specs.Grammar.{Reading, Reader, frontAt, front, nothing, records, pieceAt, listed, flaggedAt, tested, branch}
-use Rattle.records.specs.Work.{St, st, Ran, ended, broke, Visitor, run, walkOf, ranOut, pieceReadOf, Told, ToldTo, headPlace, headEnd, reachPlace, listEnd, testEndOf, testEnd, branchEnd}
+use Rattle.records.specs.Work.{St, st, Ran, Visitor, run, walkOf, pieceOf, Told, ToldTo, headPlace, headEnd, reachPlace, listEnd, testEndOf, testEnd, branchEnd}
 use Rattle.records.proofs.Readings.{front-then, branch-tested, branch-then}
 use Rattle.records.proofs.Walking.{then-on, then-else, front-alone, sized-alone, flagged-off, flagged-on, flagged-refused, told-done}
 
 -- 1. An answer with a place, and one without
 
-module _ (x : Ran St) (to : ℕ) {w : Walk} {o : List ℕ} (g : Told x w o) where
-  -- so the callee answers
-  pub piece-answers : (e m : ℕ) → w ≡ walk.Done m → e ≡ to → ToldTo x to (piece-read.To e m) o
-  unfolding pieceReadOf walkOf ranOut
-  piece-answers e m z q = by-end x (g .answer) (g .written)
-    where
-      by-end : (y : Ran St) → w ≡ walkOf y → o ≡ ranOut y → ToldTo y to (piece-read.To e m) o
-      by-end (ended s) p i = let n : m ≡ s .n = cc in record { answer = rw (q, n); written = i }
-      by-end (broke s r) p i = let y : _≡_ {A = ℕ} 0 1 = cc in absurd (omega arith)
+-- so the callee answers
+pub piece-answers : (x : Ran St) (to : ℕ) {w : Walk} {o : List ℕ} → Told x w o → (e : ℕ) {a : PieceRead} → a ≡ pieceOf e w → e ≡ to → ToldTo x to a o
+piece-answers x to g e q z = record { answer = rw (← z, ← g .answer) q; written = g .written }
 
-  pub piece-answers-refused : (r : Refusal) → w ≡ walk.Refused r → {a : PieceRead} → a ≡ piece-read.Refused r → ToldTo x to a o
-  unfolding pieceReadOf walkOf ranOut
-  piece-answers-refused r z {a} q = by-end x (g .answer) (g .written)
-    where
-      by-end : (y : Ran St) → w ≡ walkOf y → o ≡ ranOut y → ToldTo y to a o
-      by-end (ended s) p i = let y : _≡_ {A = ℕ} 0 1 = cc in absurd (omega arith)
-      by-end (broke s r′) p i = let same : r ≡ r′ = cc in record { answer = q ∙ rw same; written = i }
+pub piece-refused : (x : Ran St) (to : ℕ) {r : Refusal} {o : List ℕ} → Told x (walk.Refused r) o → {a : PieceRead} → a ≡ piece-read.Refused r → ToldTo x to a o
+unfolding pieceOf
+piece-refused x to g q = piece-answers x to g to q refl
 
 module _ (x : Ran St) (to : ℕ) {a : PieceRead} {o : List ℕ} (g : ToldTo x to a o) where
   -- so the caller learns it
   piece-told : (e m : ℕ) → a ≡ piece-read.To e m → (e ≡ to) × Told x (walk.Done m) o
-  unfolding pieceReadOf walkOf ranOut
-  piece-told e m q = by-end x (g .answer) (g .written)
+  unfolding pieceOf
+  piece-told e m q = by-walk (walkOf x) refl (g .answer)
     where
-      by-end : (y : Ran St) → a ≡ pieceReadOf to y → o ≡ ranOut y → (e ≡ to) × Told y (walk.Done m) o
-      by-end (ended s) p i = let n : m ≡ s .n = cc in let z : e ≡ to = cc in (z, record { answer = rw n; written = i })
-      by-end (broke s r) p i = let y : _≡_ {A = ℕ} 0 1 = cc in absurd (omega arith)
+      by-walk : (w : Walk) → w ≡ walkOf x → a ≡ pieceOf to w → (e ≡ to) × Told x (walk.Done m) o
+      by-walk (walk.Done n) p i = let same : m ≡ n = cc in let z : e ≡ to = cc in (z, record { answer = rw same p; written = g .written })
+      by-walk (walk.Refused r) p i = let y : _≡_ {A = ℕ} 0 1 = cc in absurd (omega arith)
 
   piece-told-refused : (r : Refusal) → a ≡ piece-read.Refused r → Told x (walk.Refused r) o
-  unfolding pieceReadOf walkOf ranOut
-  piece-told-refused r q = by-end x (g .answer) (g .written)
+  unfolding pieceOf
+  piece-told-refused r q = by-walk (walkOf x) refl (g .answer)
     where
-      by-end : (y : Ran St) → a ≡ pieceReadOf to y → o ≡ ranOut y → Told y (walk.Refused r) o
-      by-end (ended s) p i = let y : _≡_ {A = ℕ} 0 1 = cc in absurd (omega arith)
-      by-end (broke s r′) p i = let same : r ≡ r′ = cc in record { answer = rw same; written = i }
+      by-walk : (w : Walk) → w ≡ walkOf x → a ≡ pieceOf to w → Told x (walk.Refused r) o
+      by-walk (walk.Done n) p i = let y : _≡_ {A = ℕ} 0 1 = cc in absurd (omega arith)
+      by-walk (walk.Refused r′) p i = let same : r ≡ r′ = cc in record { answer = rw same p; written = g .written }
 
 -- a piece p of the bytes s, then what follows it: u
 module _ (v : Visitor St) (b : ℕ) (s₀ : St) (p : Trace) (to : ℕ) {a : PieceRead} {o : List ℕ} (g : ToldTo (run v b s₀ p) to a o) where
@@ -98,14 +88,9 @@ head-end-fits s = by-head (headOf s) refl
 module _ (v : Visitor St) (b : ℕ) (s₀ : St) (f : Reader) (s : List ℕ) where
   -- so the callee answers
   pub first-answers : (kind to : ℕ) {r : HeadRead} {w : Walk} {o : List ℕ} → r ≡ headRead (headOf s) → r ≡ head-read.To kind to
-      → Told (run v b s₀ (f kind (take (to - 5) (drop 5 s)))) w o → (m : ℕ) → w ≡ walk.Done m → ToldTo (run v b s₀ (front f nothing s)) (headEnd s) (piece-read.To to m) o
-  first-answers kind to e q g m z =
-      piece-answers (run v b s₀ (front f nothing s)) (headEnd s) (front-alone v b s₀ f s kind to e q g) to m z (head-end s kind to e q)
-
-  pub first-answers-refused : (kind to : ℕ) {r : HeadRead} {w : Walk} {o : List ℕ} → r ≡ headRead (headOf s) → r ≡ head-read.To kind to
-      → Told (run v b s₀ (f kind (take (to - 5) (drop 5 s)))) w o → (x : Refusal) → w ≡ walk.Refused x → ToldTo (run v b s₀ (front f nothing s)) (headEnd s) (piece-read.Refused x) o
-  first-answers-refused kind to e q g x z =
-      piece-answers-refused (run v b s₀ (front f nothing s)) (headEnd s) (front-alone v b s₀ f s kind to e q g) x z refl
+      → Told (run v b s₀ (f kind (take (to - 5) (drop 5 s)))) w o → {a : PieceRead} → a ≡ pieceOf to w → ToldTo (run v b s₀ (front f nothing s)) (headEnd s) a o
+  first-answers kind to e q g z =
+      piece-answers (run v b s₀ (front f nothing s)) (headEnd s) (front-alone v b s₀ f s kind to e q g) to z (head-end s kind to e q)
 
   module _ {a : PieceRead} {o : List ℕ} (g : ToldTo (run v b s₀ (front f nothing s)) (headEnd s) a o) where
     pub first-fits : (e m : ℕ) → a ≡ piece-read.To e m → (5 ≤ e) × (e ≤ length s)
@@ -139,14 +124,9 @@ list-end-fits s = by-span (listOf s) refl
 module _ (v : Visitor St) (b : ℕ) (s₀ : St) (f : Reader) (s : List ℕ) where
   -- so the callee answers
   pub list-answers : (to : ℕ) {r : Reach} {w : Walk} {o : List ℕ} → r ≡ spanReach 4 (listOf s) → r ≡ reach.To to
-      → Told (run v (b + 4) s₀ (records f (take (to - 4) (drop 4 s)))) w o → (m : ℕ) → w ≡ walk.Done m → ToldTo (run v b s₀ (listed f nothing s)) (listEnd s) (piece-read.To to m) o
-  list-answers to e q g m z =
-      piece-answers (run v b s₀ (listed f nothing s)) (listEnd s) (sized-alone v b s₀ (records f) s to e q g) to m z (list-end s to e q)
-
-  pub list-answers-refused : (to : ℕ) {r : Reach} {w : Walk} {o : List ℕ} → r ≡ spanReach 4 (listOf s) → r ≡ reach.To to
-      → Told (run v (b + 4) s₀ (records f (take (to - 4) (drop 4 s)))) w o → (x : Refusal) → w ≡ walk.Refused x → ToldTo (run v b s₀ (listed f nothing s)) (listEnd s) (piece-read.Refused x) o
-  list-answers-refused to e q g x z =
-      piece-answers-refused (run v b s₀ (listed f nothing s)) (listEnd s) (sized-alone v b s₀ (records f) s to e q g) x z refl
+      → Told (run v (b + 4) s₀ (records f (take (to - 4) (drop 4 s)))) w o → {a : PieceRead} → a ≡ pieceOf to w → ToldTo (run v b s₀ (listed f nothing s)) (listEnd s) a o
+  list-answers to e q g z =
+      piece-answers (run v b s₀ (listed f nothing s)) (listEnd s) (sized-alone v b s₀ (records f) s to e q g) to z (list-end s to e q)
 
   module _ {a : PieceRead} {o : List ℕ} (g : ToldTo (run v b s₀ (listed f nothing s)) (listEnd s) a o) where
     pub listed-fits : (e m : ℕ) → a ≡ piece-read.To e m → (4 ≤ e) × (e ≤ length s)
@@ -171,14 +151,14 @@ test-end-fits s = by-flag (flagOf s) refl
 module _ (v : Visitor St) (b : ℕ) (s₀ : St) (f : Role → Reader) (s : List ℕ) {x : FlagRead} (e : x ≡ flagOf s) where
   -- so the callee answers
   pub test-off-answers : x ≡ flag.Off → ToldTo (run v b s₀ (tested f nothing s)) (testEnd s) (piece-read.To 1 (s₀ .n)) (s₀ .out)
-  unfolding tested testEndOf
+  unfolding tested testEndOf pieceOf
   test-off-answers q =
-      piece-answers (run v b s₀ (tested f nothing s)) (testEnd s)
-      (rw (flagged-off v b s₀ nothing (front (f Visited) nothing) s e q) (told-done v (b + 1) s₀ (nothing (take (length s - 1) (drop 1 s))) refl)) 1 (s₀ .n) refl (rw (← e, q))
+      piece-answers (run v b s₀ (tested f nothing s)) (testEnd s) {w = walk.Done (s₀ .n)}
+      (rw (flagged-off v b s₀ nothing (front (f Visited) nothing) s e q) (told-done v (b + 1) s₀ (nothing (take (length s - 1) (drop 1 s))) refl)) 1 refl (rw (← e, q))
 
   pub test-flag-refused : (r : Refusal) → x ≡ flag.Refused r → ToldTo (run v b s₀ (tested f nothing s)) (testEnd s) (piece-read.Refused r) (s₀ .out)
   unfolding tested
-  test-flag-refused r q = piece-answers-refused (run v b s₀ (tested f nothing s)) (testEnd s) (flagged-refused v b s₀ nothing (front (f Visited) nothing) s r e q) r refl refl
+  test-flag-refused r q = piece-refused (run v b s₀ (tested f nothing s)) (testEnd s) (flagged-refused v b s₀ nothing (front (f Visited) nothing) s r e q) refl
 
   module _ (q : x ≡ flag.On) {a : PieceRead} {o : List ℕ}
       (g : ToldTo (run v (b + 1) s₀ (front (f Visited) nothing (take (length s - 1) (drop 1 s)))) (headEnd (take (length s - 1) (drop 1 s))) a o) where
@@ -191,14 +171,15 @@ module _ (v : Visitor St) (b : ℕ) (s₀ : St) (f : Role → Reader) (s : List 
     on-end = rw (← e, q, to-end 1 s)
 
     pub test-on-answers : (d m : ℕ) → a ≡ piece-read.To d m → ToldTo (run v b s₀ (tested f nothing s)) (testEnd s) (piece-read.To (1 + d) m) o
+    unfolding pieceOf
     test-on-answers d m z =
         let h = piece-told (run v (b + 1) s₀ (front (f Visited) nothing (take (length s - 1) (drop 1 s)))) (headEnd (take (length s - 1) (drop 1 s))) g d m z in
-        piece-answers (run v b s₀ (tested f nothing s)) (testEnd s) (on-told (h .1)) (1 + d) m refl (ap (λ i. 1 + i) (h .0) ∙ on-end)
+        piece-answers (run v b s₀ (tested f nothing s)) (testEnd s) (on-told (h .1)) (1 + d) refl (ap (λ i. 1 + i) (h .0) ∙ on-end)
 
     pub test-on-refused : (r : Refusal) → a ≡ piece-read.Refused r → ToldTo (run v b s₀ (tested f nothing s)) (testEnd s) a o
     test-on-refused r z =
         let h = piece-told-refused (run v (b + 1) s₀ (front (f Visited) nothing (take (length s - 1) (drop 1 s)))) (headEnd (take (length s - 1) (drop 1 s))) g r z in
-        piece-answers-refused (run v b s₀ (tested f nothing s)) (testEnd s) (on-told h) r refl z
+        piece-refused (run v b s₀ (tested f nothing s)) (testEnd s) (on-told h) z
 
 -- 5. A branch
 
@@ -223,8 +204,8 @@ module _ (v : Visitor St) (b : ℕ) (s₀ : St) (f : Role → Reader) (s : List 
 
     pub branch-test-refused : (r : Refusal) → a ≡ piece-read.Refused r → ToldTo (run v b s₀ (branch f nothing s)) (branchEnd s) a o
     branch-test-refused r z =
-        piece-answers-refused (run v b s₀ (branch f nothing s)) (branchEnd s)
-        (piece-else v b s₀ (tested f nothing s) (testEnd s) g (shift (testEnd s) (listed (f Branch) nothing (drop (testEnd s) s))) (branch f nothing s) (branch-tested f nothing s) r z) r refl z
+        piece-refused (run v b s₀ (branch f nothing s)) (branchEnd s)
+        (piece-else v b s₀ (tested f nothing s) (testEnd s) g (shift (testEnd s) (listed (f Branch) nothing (drop (testEnd s) s))) (branch f nothing s) (branch-tested f nothing s) r z) z
 
     -- and of the list behind it
     module _ (e m : ℕ) (q : a ≡ piece-read.To e m) {c : PieceRead} {o′ : List ℕ}
@@ -235,16 +216,17 @@ module _ (v : Visitor St) (b : ℕ) (s₀ : St) (f : Role → Reader) (s : List 
       pub branch-list-refused : (r : Refusal) → c ≡ piece-read.Refused r → ToldTo (run v b s₀ (branch f nothing s)) (branchEnd s) c o′
       branch-list-refused r z =
           let rest = take (length s - e) (drop e s) in
-          piece-answers-refused (run v b s₀ (branch f nothing s)) (branchEnd s)
-          (all-told (piece-told-refused (run v (b + e) (st o m) (listed (f Branch) nothing rest)) (listEnd rest) g′ r z)) r refl z
+          piece-refused (run v b s₀ (branch f nothing s)) (branchEnd s)
+          (all-told (piece-told-refused (run v (b + e) (st o m) (listed (f Branch) nothing rest)) (listEnd rest) g′ r z)) z
 
       pub branch-answers : (d n : ℕ) → c ≡ piece-read.To d n → ToldTo (run v b s₀ (branch f nothing s)) (branchEnd s) (piece-read.To (e + d) n) o′
+      unfolding pieceOf
       branch-answers d n z =
           let rest = take (length s - e) (drop e s) in
           let h = piece-told (run v b s₀ (tested f nothing s)) (testEnd s) g e m q in
           let i = piece-told (run v (b + e) (st o m) (listed (f Branch) nothing rest)) (listEnd rest) g′ d n z in
           let there : e + d ≡ e + listEnd (drop e s) = rw (i .0, to-end e s) in
-          piece-answers (run v b s₀ (branch f nothing s)) (branchEnd s) (all-told (i .1)) (e + d) n refl (there ∙ ap (λ j. j + listEnd (drop j s)) (h .0))
+          piece-answers (run v b s₀ (branch f nothing s)) (branchEnd s) (all-told (i .1)) (e + d) refl (there ∙ ap (λ j. j + listEnd (drop j s)) (h .0))
 
   -- so its caller learns of it
   module _ {a : PieceRead} {o : List ℕ} (g : ToldTo (run v b s₀ (branch f nothing s)) (branchEnd s) a o) where

@@ -83,14 +83,14 @@ pub record Told (x : Ran St) (w : Walk) (o : List ℕ) : Type 0 where
   pub answer : w ≡ walkOf x
   pub written : o ≡ ranOut x
 
--- the answer with the place after what was read
-unfoldable pub pieceReadOf : ℕ → Ran St → PieceRead
-pieceReadOf to (ended s) = piece-read.To to (s .n)
-pieceReadOf to (broke s r) = piece-read.Refused r
+-- the answer of a walk, with the place after what it read
+unfoldable pub pieceOf : ℕ → Walk → PieceRead
+pieceOf to (walk.Done n) = piece-read.To to n
+pieceOf to (walk.Refused r) = piece-read.Refused r
 
 -- an answer with a place and what was written are those of x, which reads to the place
 pub record ToldTo (x : Ran St) (to : ℕ) (a : PieceRead) (o : List ℕ) : Type 0 where
-  pub answer : a ≡ pieceReadOf to x
+  pub answer : a ≡ pieceOf to (walkOf x)
   pub written : o ≡ ranOut x
 
 -- the place that the head of a record shows; 0 where it is refused, a place that no answer shows, here and below

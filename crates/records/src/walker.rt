@@ -4,7 +4,7 @@ ghost use Prim.Native.Nat.{_+_, _<_, _^_};
 ghost use lib.ListN.{length};
 ghost use Rattle.fields.specs.declared.Role.the-variants as Role;
 ghost use Rattle.records.specs.Grammar.{recordOf, records, exact, ending, repeat, front, listed, named, flagged, last, orElse, arms, options, bodyOf, nothing, tested, branch, moded};
-ghost use Rattle.records.specs.Work.{run, st, keeping, Told, ToldTo, headEnd, listEnd, testEnd, branchEnd, endOf};
+ghost use Rattle.records.specs.Work.{run, st, keeping, Told, pieceOf, ToldTo, headEnd, listEnd, testEnd, branchEnd, endOf};
 use crate::PieceRead;
 use crate::Walk;
 use crate::sorts::PLAIN;
@@ -53,6 +53,16 @@ pub fn at_end(s: &[u8], n: usize) -> Walk
         return Walk::Refused(Refusal::Short);
     }
     Walk::Done(n)
+}
+
+// The answer of a walk, with the place after what it read.
+pub fn piece_to(w: Walk, e: usize) -> PieceRead
+    ensures { λ r. ⌜ r ≡ pieceOf e w ⌝ }
+{
+    match w {
+        Walk::Refused(r) => PieceRead::Refused(r),
+        Walk::Done(m) => PieceRead::To(e, m),
+    }
 }
 
 // A name, and nothing more.
@@ -412,10 +422,7 @@ fn front_list(
         Reach::Refused(r) => PieceRead::Refused(r),
         Reach::To(e) => {
             let w = list(&s[4..e], role, base + 4, left, out, n);
-            match w {
-                Walk::Refused(r) => PieceRead::Refused(r),
-                Walk::Done(m) => PieceRead::To(e, m),
-            }
+            piece_to(w, e)
         }
     }
 }
@@ -433,10 +440,7 @@ fn first(s: &[u8], role: Role, base: usize, left: usize, out: &mut [u32], n: usi
                 return PieceRead::To(e, std::num::wrapping_add_usize(n, 4294967296));
             }
             let w = record(&s[5..e], role, kind, base, left, out, n);
-            match w {
-                Walk::Refused(r) => PieceRead::Refused(r),
-                Walk::Done(m) => PieceRead::To(e, m),
-            }
+            piece_to(w, e)
         }
     }
 }

@@ -19,11 +19,11 @@ use Rattle.records.specs.declared.PieceRead.{PieceRead}
 use Rattle.records.specs.declared.PieceRead.the-variants as piece-read
 use Rattle.records.specs.declared.Walk.{Walk}
 use Rattle.records.specs.declared.Walk.the-variants as walk
-use Rattle.records.specs.Work.{St, st, Visitor, run, Told, ToldTo}
+use Rattle.records.specs.Work.{St, st, Visitor, run, Told, pieceOf, ToldTo}
 use Rattle.records.proofs.Traces.{then-done, refuse-then, shift-done, run-shift}
 use Rattle.records.proofs.Readings.{repeat-none, repeat-step, piece-local}
 use Rattle.records.proofs.Walking.{told-refused, told-done, sized-refused, sized-on, sized-else}
-use Rattle.records.proofs.PiecesRead.{piece-answers, piece-answers-refused, piece-on, piece-else, piece-within}
+use Rattle.records.proofs.PiecesRead.{piece-answers, piece-refused, piece-on, piece-else, piece-within}
 use Rattle.story.proofs.Reaches.{heading-laid}
 use Rattle.story.proofs.Titled.{titleTrace, titled-trace}
 
@@ -34,7 +34,7 @@ module _ (v : Visitor St) (b : ℕ) (s₀ : St) where
       → ToldTo (run v b s₀ (titled nothing s)) (titleEnd (headingOf s)) (piece-read.Refused x) (s₀ .out)
   unfolding titleTrace
   title-refused s x e q =
-      piece-answers-refused (run v b s₀ (titled nothing s)) (titleEnd (headingOf s)) (told-refused v b s₀ (titled nothing s) x (rw (titled-trace nothing s, ← e, q))) x refl refl
+      piece-refused (run v b s₀ (titled nothing s)) (titleEnd (headingOf s)) (told-refused v b s₀ (titled nothing s) x (rw (titled-trace nothing s, ← e, q))) refl
 
   -- so the callee answers, which reads the title with its nodes
   module _ (s : List ℕ) (h : Heading) {r : HeadingRead} (told : r ≡ headingOf s) (at : r ≡ heading.At h) {w : Walk} {o : List ℕ}
@@ -45,12 +45,9 @@ module _ (v : Visitor St) (b : ℕ) (s₀ : St) where
         let inside = nodes (take (h .end - h .nodes) (drop (h .nodes) s)) in
         rw (titled-trace nothing s, ← told, at, shift-done (h .end), then-done (shift (h .nodes) inside), run-shift v b (h .nodes) s₀ inside) g
 
-    pub title-answers : (m : ℕ) → w ≡ walk.Done m → ToldTo (run v b s₀ (titled nothing s)) (titleEnd (headingOf s)) (piece-read.To (h .end) m) o
+    pub title-answers : {a : PieceRead} → a ≡ pieceOf (h .end) w → ToldTo (run v b s₀ (titled nothing s)) (titleEnd (headingOf s)) a o
     unfolding titleEnd
-    title-answers m z = piece-answers (run v b s₀ (titled nothing s)) (titleEnd (headingOf s)) titled-alone (h .end) m z (rw (← told, at))
-
-    pub title-answers-refused : (x : Refusal) → w ≡ walk.Refused x → ToldTo (run v b s₀ (titled nothing s)) (titleEnd (headingOf s)) (piece-read.Refused x) o
-    title-answers-refused x z = piece-answers-refused (run v b s₀ (titled nothing s)) (titleEnd (headingOf s)) titled-alone x z refl
+    title-answers z = piece-answers (run v b s₀ (titled nothing s)) (titleEnd (headingOf s)) titled-alone (h .end) z (rw (← told, at))
 
   -- so its caller learns of it
   module _ (s : List ℕ) where

@@ -20,6 +20,7 @@ use records::PieceRead;
 use records::Walk;
 use records::walk_nodes;
 use records::walker::at_end;
+use records::walker::piece_to;
 
 // Names to the end.
 pub fn read_names(s: &[u8]) -> Ended
@@ -52,10 +53,7 @@ fn read_title(s: &[u8], base: usize, out: &mut [u32], n: usize) -> PieceRead
             let nodes = h.nodes;
             let end = h.end;
             let w = walk_nodes(&s[nodes..end], base + nodes, out, n);
-            match w {
-                Walk::Refused(r) => PieceRead::Refused(r),
-                Walk::Done(m) => PieceRead::To(end, m),
-            }
+            piece_to(w, end)
         }
     }
 }

@@ -2,7 +2,7 @@
 use native.Mathlib.Omega.{arith}
 use Rattle.records.specs.Work.{st, keeping}
 use Rattle.story.proofs.Reaches.{Laid, heading-laid}
-use Rattle.story.proofs.PieceWalks.{title-refused, title-answers, title-answers-refused}
+use Rattle.story.proofs.PieceWalks.{title-refused, title-answers}
 use borrow.Author.Needs.{needs}
 use Rattle.story.proofs.flows.read_title.Statement.{statement}
 use Rattle.story.proofs.flows.read_title.Tie as tie
@@ -33,17 +33,10 @@ returns c =
 
 returns-2 : tie.Need-returns-2
 returns-2 c =
-    let a = c .before .before .before .before .before .before .before .before .before .before .before .before .before .before .args in
-    let k = c .before .before .before .before .before .before .before .before .before .heading2 .given in
-    let w = c .before .w .given in
-    title-answers-refused keeping (a .base) (st (a .out .now) (a .n)) (a .s .now) (k .0 .0) (c .before .before .before .before .before .before .before .before .before .before .before .read-heading .ensures) (k .1) (c .before .before .before .before .before .walk-nodes .ensures) (w .0 .0) (w .1)
-
-returns-3 : tie.Need-returns-3
-returns-3 c =
-    let a = c .before .before .before .before .before .before .before .before .before .before .before .before .before .before .args in
-    let k = c .before .before .before .before .before .before .before .before .before .heading2 .given in
-    let w = c .before .w2 .given in
-    title-answers keeping (a .base) (st (a .out .now) (a .n)) (a .s .now) (k .0 .0) (c .before .before .before .before .before .before .before .before .before .before .before .read-heading .ensures) (k .1) (c .before .before .before .before .before .walk-nodes .ensures) (w .0 .0) (w .1)
+    let known = c .before .before .before .before .before .before in
+    let a = known .before .before .before .before .before .before .args in
+    let k = known .before .heading2 .given in
+    title-answers keeping (a .base) (st (a .out .now) (a .n)) (a .s .now) (k .0 .0) (known .before .before .before .read-heading .ensures) (k .1) (c .before .before .before .walk-nodes .ensures) (c .piece-to .ensures)
 
 pub read-title-spec : {M : Type 1} → statement M
-read-title-spec = tie.close (tie.spec (λ c κs. search needs) (λ c. search needs) (λ c. search needs) sub-walk-nodes part-walk-nodes-start part-walk-nodes-end add-walk-nodes walk-nodes-requires (λ c. search needs) (λ c. search needs) returns (λ c. search needs) returns-2 (λ c. search needs) returns-3)
+read-title-spec = tie.close (tie.spec (λ c κs. search needs) (λ c. search needs) (λ c. search needs) sub-walk-nodes part-walk-nodes-start part-walk-nodes-end add-walk-nodes walk-nodes-requires (λ c κs. search needs) returns (λ c. search needs) returns-2)

@@ -74,6 +74,7 @@ use Rattle.fields.proofs.read_list.Reads as read-list-reads
 use Rattle.fields.proofs.read_name.Reads as read-name-reads
 use Rattle.records.proofs.sorts.is_bare.Reads as is-bare-reads
 use Rattle.records.proofs.walker.at_end.Reads as at-end-reads
+use Rattle.records.proofs.walker.piece_to.Reads as piece-to-reads
 use Rattle.std.proofs.num.wrapping_add_usize.Reads as wrapping-add-usize-reads
 use Rattle.records.proofs.walker.note.Reads as note-reads
 use Rattle.records.proofs.walker.single.Reads as walk-single-reads
@@ -299,10 +300,10 @@ module _ (t : ℕ) where
   walk-exact-uses = (walk-first-below, walk-first.Post, at-end-reads.Asked, at-end-reads.Learnt)
 
   abbrev pub walk-first-uses : walk-first-lts.Claims
-  walk-first-uses = (read-head-reads.Asked, read-head-reads.Learnt, is-bare-reads.Asked, is-bare-reads.Learnt, wrapping-add-usize-reads.Asked, wrapping-add-usize-reads.Learnt, walk-record-below, walk-record.Post)
+  walk-first-uses = (read-head-reads.Asked, read-head-reads.Learnt, is-bare-reads.Asked, is-bare-reads.Learnt, wrapping-add-usize-reads.Asked, wrapping-add-usize-reads.Learnt, walk-record-below, walk-record.Post, piece-to-reads.Asked, piece-to-reads.Learnt)
 
   abbrev pub walk-front-list-uses : walk-front-list-lts.Claims
-  walk-front-list-uses = (read-list-reads.Asked, read-list-reads.Learnt, walk-list-below, walk-list.Post)
+  walk-front-list-uses = (read-list-reads.Asked, read-list-reads.Learnt, walk-list-below, walk-list.Post, piece-to-reads.Asked, piece-to-reads.Learnt)
 
   abbrev pub walk-label-uses : walk-label-lts.Claims
   walk-label-uses = (read-name-reads.Asked, read-name-reads.Learnt, walk-options-below, walk-options.Post)

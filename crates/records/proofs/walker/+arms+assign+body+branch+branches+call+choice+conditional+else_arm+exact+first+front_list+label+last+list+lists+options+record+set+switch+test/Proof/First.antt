@@ -8,7 +8,7 @@ use Rattle.records.specs.Grammar.{recordOf, front, nothing}
 use Rattle.records.specs.Work.{run, st, keeping, headEnd}
 use Rattle.records.proofs.Bare.{bare-answers}
 use Rattle.records.proofs.Walking.{front-refused}
-use Rattle.records.proofs.PiecesRead.{piece-answers-refused, first-answers, first-answers-refused}
+use Rattle.records.proofs.PiecesRead.{piece-refused, first-answers}
 use borrow.Author.Needs.{needs}
 use Rattle.records.proofs.walker.first.Reads as walk-first
 use Rattle.records.proofs.walker.+arms+assign+body+branch+branches+call+choice+conditional+else_arm+exact+first+front_list+label+last+list+lists+options+record+set+switch+test.Lts-first as lts
@@ -29,7 +29,7 @@ module _ (t : ℕ) where
   refused c =
       let a = c .before .before .before .before .before .before .args in
       let k = c .before .head .given in
-      piece-answers-refused (run keeping (a .base) (st (a .out .now) (a .n)) (front (recordOf (a .left) (a .role)) nothing (a .s .now))) (headEnd (a .s .now)) (front-refused keeping (a .base) (st (a .out .now) (a .n)) (recordOf (a .left) (a .role)) nothing (a .s .now) (k .0 .0) (c .before .before .before .read-head .ensures) (k .1)) (k .0 .0) refl refl
+      piece-refused (run keeping (a .base) (st (a .out .now) (a .n)) (front (recordOf (a .left) (a .role)) nothing (a .s .now))) (headEnd (a .s .now)) (front-refused keeping (a .base) (st (a .out .now) (a .n)) (recordOf (a .left) (a .role)) nothing (a .s .now) (k .0 .0) (c .before .before .before .read-head .ensures) (k .1)) refl
 
   sub-piece : lts.Need-sub-record (walk-first-uses t) (walk-first-at t) walk-first.Post
   sub-piece c = fits (c .before .before) .0
@@ -45,21 +45,12 @@ module _ (t : ℕ) where
       let known = c .before .before .before .before in
       omega (arith, fits known, c .before .record-arg .given .2, known .before .before .before .before .before .before .pre .0, known .before .before .before .before .before .before .pre .1)
 
-  inside-refused : lts.Need-returns-3 (walk-first-uses t) (walk-first-at t) walk-first.Post
-  inside-refused c =
-      let known = c .before .before .before .before .before .before .before .before .before .before in
-      let a = known .before .before .before .before .before .before .args in
-      let k = known .before .head2 .given in
-      let w = c .before .w .given in
-      first-answers-refused keeping (a .base) (st (a .out .now) (a .n)) (recordOf (a .left) (a .role)) (a .s .now) (k .0 .0) (k .0 .1 .0) (known .before .before .before .read-head .ensures) (k .1) (c .before .before .before .before .before .record .ensures) (w .0 .0) (w .1)
-
-  read : lts.Need-returns-4 (walk-first-uses t) (walk-first-at t) walk-first.Post
+  read : lts.Need-returns-3 (walk-first-uses t) (walk-first-at t) walk-first.Post
   read c =
-      let known = c .before .before .before .before .before .before .before .before .before .before in
+      let known = c .before .before .before .before .before .before .before .before in
       let a = known .before .before .before .before .before .before .args in
       let k = known .before .head2 .given in
-      let w = c .before .w2 .given in
-      first-answers keeping (a .base) (st (a .out .now) (a .n)) (recordOf (a .left) (a .role)) (a .s .now) (k .0 .0) (k .0 .1 .0) (known .before .before .before .read-head .ensures) (k .1) (c .before .before .before .before .before .record .ensures) (w .0 .0) (w .1)
+      first-answers keeping (a .base) (st (a .out .now) (a .n)) (recordOf (a .left) (a .role)) (a .s .now) (k .0 .0) (k .0 .1 .0) (known .before .before .before .read-head .ensures) (k .1) (c .before .before .before .record .ensures) (c .piece-to .ensures)
 
   pub ok : {M : Type 1} → lts.Closed (walk-first-uses t) (walk-first-at t) walk-first.Post M
-  ok = lts.spec (walk-first-uses t) (walk-first-at t) walk-first.Post (λ c κs. search needs) (λ c. search needs) (λ c. search needs) (λ c κs. search needs) (λ c κs. search needs) bare sub-piece part-start part-end piece-requires (λ c. search needs) (λ c. search needs) refused (λ c. search needs) inside-refused (λ c. search needs) read
+  ok = lts.spec (walk-first-uses t) (walk-first-at t) walk-first.Post (λ c κs. search needs) (λ c. search needs) (λ c. search needs) (λ c κs. search needs) (λ c κs. search needs) bare sub-piece part-start part-end piece-requires (λ c κs. search needs) refused (λ c. search needs) read

@@ -7,7 +7,7 @@ use Rattle.fields.proofs.Laws.{list-within}
 use Rattle.records.specs.Grammar.{recordOf, listed, nothing, records}
 use Rattle.records.specs.Work.{run, st, keeping, listEnd}
 use Rattle.records.proofs.Walking.{sized-refused}
-use Rattle.records.proofs.PiecesRead.{piece-answers-refused, list-answers, list-answers-refused}
+use Rattle.records.proofs.PiecesRead.{piece-refused, list-answers}
 use borrow.Author.Needs.{needs}
 use Rattle.records.proofs.walker.front_list.Reads as walk-front-list
 use Rattle.records.proofs.walker.+arms+assign+body+branch+branches+call+choice+conditional+else_arm+exact+first+front_list+label+last+list+lists+options+record+set+switch+test.Lts-front_list as lts
@@ -21,7 +21,7 @@ module _ (t : ℕ) where
   refused c =
       let a = c .before .before .before .before .before .before .args in
       let k = c .before .reach .given in
-      piece-answers-refused (run keeping (a .base) (st (a .out .now) (a .n)) (listed (recordOf (a .left) (a .role)) nothing (a .s .now))) (listEnd (a .s .now)) (sized-refused keeping (a .base) (st (a .out .now) (a .n)) (records (recordOf (a .left) (a .role))) nothing (a .s .now) (k .0 .0) (c .before .before .before .read-list .ensures) (k .1)) (k .0 .0) refl refl
+      piece-refused (run keeping (a .base) (st (a .out .now) (a .n)) (listed (recordOf (a .left) (a .role)) nothing (a .s .now))) (listEnd (a .s .now)) (sized-refused keeping (a .base) (st (a .out .now) (a .n)) (records (recordOf (a .left) (a .role))) nothing (a .s .now) (k .0 .0) (c .before .before .before .read-list .ensures) (k .1)) refl
 
   sub-piece : lts.Need-sub-list (walk-front-list-uses t) (walk-front-list-at t) walk-front-list.Post
   sub-piece c = fits c .0
@@ -38,19 +38,12 @@ module _ (t : ℕ) where
   piece-requires : lts.Need-list-requires (walk-front-list-uses t) (walk-front-list-at t) walk-front-list.Post
   piece-requires c κs = omega (arith, fits (c .before .before), c .before .list-arg .given .2, c .before .before .before .before .before .before .before .before .pre .0, c .before .before .before .before .before .before .before .before .pre .1)
 
-  inside-refused : lts.Need-returns-2 (walk-front-list-uses t) (walk-front-list-at t) walk-front-list.Post
-  inside-refused c =
-      let a = c .before .before .before .before .before .before .before .before .before .before .before .before .before .before .args in
-      let k = c .before .before .before .before .before .before .before .before .before .reach2 .given in
-      let w = c .before .w .given in
-      list-answers-refused keeping (a .base) (st (a .out .now) (a .n)) (recordOf (a .left) (a .role)) (a .s .now) (k .0 .0) (c .before .before .before .before .before .before .before .before .before .before .before .read-list .ensures) (k .1) (c .before .before .before .before .before .list .ensures) (w .0 .0) (w .1)
-
-  read : lts.Need-returns-3 (walk-front-list-uses t) (walk-front-list-at t) walk-front-list.Post
+  read : lts.Need-returns-2 (walk-front-list-uses t) (walk-front-list-at t) walk-front-list.Post
   read c =
-      let a = c .before .before .before .before .before .before .before .before .before .before .before .before .before .before .args in
-      let k = c .before .before .before .before .before .before .before .before .before .reach2 .given in
-      let w = c .before .w2 .given in
-      list-answers keeping (a .base) (st (a .out .now) (a .n)) (recordOf (a .left) (a .role)) (a .s .now) (k .0 .0) (c .before .before .before .before .before .before .before .before .before .before .before .read-list .ensures) (k .1) (c .before .before .before .before .before .list .ensures) (w .0 .0) (w .1)
+      let known = c .before .before .before .before .before .before in
+      let a = known .before .before .before .before .before .before .args in
+      let k = known .before .reach2 .given in
+      list-answers keeping (a .base) (st (a .out .now) (a .n)) (recordOf (a .left) (a .role)) (a .s .now) (k .0 .0) (known .before .before .before .read-list .ensures) (k .1) (c .before .before .before .list .ensures) (c .piece-to .ensures)
 
   pub ok : {M : Type 1} → lts.Closed (walk-front-list-uses t) (walk-front-list-at t) walk-front-list.Post M
-  ok = lts.spec (walk-front-list-uses t) (walk-front-list-at t) walk-front-list.Post (λ c κs. search needs) (λ c. search needs) (λ c. search needs) sub-piece part-start part-end add-4 piece-requires (λ c. search needs) (λ c. search needs) refused (λ c. search needs) inside-refused (λ c. search needs) read
+  ok = lts.spec (walk-front-list-uses t) (walk-front-list-at t) walk-front-list.Post (λ c κs. search needs) (λ c. search needs) (λ c. search needs) sub-piece part-start part-end add-4 piece-requires (λ c κs. search needs) refused (λ c. search needs) read
