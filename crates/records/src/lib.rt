@@ -11,6 +11,9 @@ use fields::Refusal;
 use fields::Role;
 use walker::list;
 
+// One record met, in the number that carries both counts (`counts` of specs/Work): those met by its quotient, those kept by its remainder.
+pub const MET: usize = 4294967296;
+
 // How a walk ends: read through, with the counts of records kept and met as one number; or refused.
 pub enum Walk {
     Done(usize),

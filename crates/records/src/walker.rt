@@ -5,6 +5,7 @@ ghost use lib.ListN.{length};
 ghost use Rattle.fields.specs.declared.Role.the-variants as Role;
 ghost use Rattle.records.specs.Grammar.{recordOf, records, exact, ending, repeat, front, listed, named, flagged, last, orElse, arms, options, bodyOf, nothing, tested, branch, moded};
 ghost use Rattle.records.specs.Work.{run, st, keeping, Told, pieceOf, ToldTo, headEnd, listEnd, testEnd, branchEnd, endOf};
+use crate::MET;
 use crate::PieceRead;
 use crate::Walk;
 use crate::sorts::PLAIN;
@@ -32,10 +33,10 @@ fn note(role: Role, kind: u8, payload: &[u8], place: usize, out: &mut [u32], n: 
 {
     let sort = sort_of(role, kind, payload);
     if sort == PLAIN {
-        return std::num::wrapping_add_usize(n, 4294967296);
+        return std::num::wrapping_add_usize(n, MET);
     }
-    let next = std::num::wrapping_add_usize(n, 4294967297);
-    let slot = n % 4294967296;
+    let next = std::num::wrapping_add_usize(n, MET + 1);
+    let slot = n % MET;
     if slot < out.len() {
         let branch = branch_bit(role);
         let label = label_bit(sort, payload);
@@ -167,7 +168,7 @@ pub fn list(s: &[u8], role: Role, base: usize, left: usize, out: &mut [u32], n: 
             }
             HeadRead::To(kind, e) => {
                 if is_bare(role, kind, e, left) {
-                    count = std::num::wrapping_add_usize(count, 4294967296);
+                    count = std::num::wrapping_add_usize(count, MET);
                     at = at + e;
                     t = &t[e..];
                     continue;
@@ -437,7 +438,7 @@ fn first(s: &[u8], role: Role, base: usize, left: usize, out: &mut [u32], n: usi
         HeadRead::Refused(r) => PieceRead::Refused(r),
         HeadRead::To(kind, e) => {
             if is_bare(role, kind, e, left) {
-                return PieceRead::To(e, std::num::wrapping_add_usize(n, 4294967296));
+                return PieceRead::To(e, std::num::wrapping_add_usize(n, MET));
             }
             let w = record(&s[5..e], role, kind, base, left, out, n);
             piece_to(w, e)

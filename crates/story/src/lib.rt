@@ -11,6 +11,7 @@ use crate::flows::read_flows;
 use crate::flows::read_names;
 use crate::trailer::read_trailer;
 use fields::Refusal;
+use records::MET;
 use records::Walk;
 use records::walk_nodes;
 
@@ -89,7 +90,7 @@ pub fn read(file: &[u8], items: &mut [u32]) -> StoryRead
             let w = read_sections(file, c, items);
             match w {
                 Walk::Refused(r) => StoryRead::Refused(r),
-                Walk::Done(n) => StoryRead::At(c, n % 4294967296, n / 4294967296),
+                Walk::Done(n) => StoryRead::At(c, n % MET, n / MET),
             }
         }
     }

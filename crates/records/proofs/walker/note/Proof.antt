@@ -22,6 +22,9 @@ wrapping-add-usize-requires c κs = search needs
 returns : tie.Need-returns
 returns c = note-plain (c .before .before .before .before .before .args .out .now) (c .before .before .before .before .before .args .n) (c .before .before .before .before .before .args .role) (c .before .before .before .before .before .args .kind) (c .before .before .before .before .before .args .place) (c .before .before .before .before .before .args .payload .now) (c .before .before .sort-of .ensures) (c .before .if1 .taken) (c .wrapping-add-usize .ensures)
 
+add-wrapping-add-usize : tie.Need-add-wrapping-add-usize
+add-wrapping-add-usize c = search needs
+
 wrapping-add-usize-requires-2 : tie.Need-wrapping-add-usize-requires-2
 wrapping-add-usize-requires-2 c κs = search needs
 
@@ -77,6 +80,7 @@ note-spec =
     sort-of-requires
     wrapping-add-usize-requires
     returns
+    add-wrapping-add-usize
     wrapping-add-usize-requires-2
     branch-bit-requires
     label-bit-requires
