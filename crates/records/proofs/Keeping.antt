@@ -4,7 +4,6 @@ use mathlib.Core.Bool.{Bool, true, false}
 use mathlib.Core.List.{List, [], _∷_}
 use Prim.Native.Nat.{ℕ, zero, suc, _+_, _%_, _^_, _≤_, _<_}
 use native.Mathlib.Nat.{add-zero}
-use native.Mathlib.Numerals.{unary-clauses}
 use native.Mathlib.Omega.{arith}
 use lib.ListN.{length, set, length-set, take-append-drop}
 use lib.Seq.{take-all}
@@ -24,7 +23,7 @@ unfolding fill
 fill-none k out = rw (add-zero k, take-append-drop k out) (take-all (length out) out (omega arith))
 
 -- one number in its slot, then the others
-pub fill-next : (k x : ℕ) (xs out : List ℕ) → fill k (x ∷ xs) out ≡ fill (suc k) xs (set out k x)
+fill-next : (k x : ℕ) (xs out : List ℕ) → fill k (x ∷ xs) out ≡ fill (suc k) xs (set out k x)
 unfolding fill
 fill-next k x xs [] = refl
 fill-next zero x xs (y ∷ out) =

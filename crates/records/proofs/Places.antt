@@ -71,14 +71,14 @@ module _ (s : List ℕ) where
   placed-then (refuse r) u p q g h = tt
   placed-then (emit role kind a bs t) u p q g h = (omega (arith, g .0), g .1, placed-then t u (omega (arith, g .0)) q (g .2) h)
 
-  pub placed-drop : (a lo hi : ℕ) (t : Trace) → Placed (drop a s) lo hi t → Placed s (a + lo) (a + hi) (shift a t)
+  placed-drop : (a lo hi : ℕ) (t : Trace) → Placed (drop a s) lo hi t → Placed s (a + lo) (a + hi) (shift a t)
   unfolding Placed shift
   placed-drop a lo hi done h = tt
   placed-drop a lo hi (refuse r) h = tt
   placed-drop a lo hi (emit role kind p bs t) h =
       (omega (arith, h .0), stands-drop a s (h .1), placed-wider (shift a t) (omega arith) (omega arith) (placed-drop a (suc p) hi t (h .2)))
 
-  pub placed-take : (n lo hi : ℕ) (t : Trace) → Placed (take n s) lo hi t → Placed s lo hi t
+  placed-take : (n lo hi : ℕ) (t : Trace) → Placed (take n s) lo hi t → Placed s lo hi t
   unfolding Placed
   placed-take n lo hi done h = tt
   placed-take n lo hi (refuse r) h = tt
@@ -151,7 +151,7 @@ piece-places g k f h s = by-span (listOf s) refl
 listed-places : (f : Reader) (k : Reading) → PlacesRecord f → Places k → Places (listed f k)
 listed-places f k g h = piece-places (records f) k (records-places f g) h
 
-pub named-places : (k : Reading) → Places k → Places (named k)
+named-places : (k : Reading) → Places k → Places (named k)
 unfolding namedAt Placed
 named-places k h s = by-name (nameOf s) refl
   where

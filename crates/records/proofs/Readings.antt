@@ -99,7 +99,7 @@ piece-then g k s (Span.Bytes n) = rw (shift-done (4 + n), then-done (shift 4 (g 
 piece-then g k s (Span.Refused r) = sym (refuse-then r (shift 0 (k (drop 0 s))))
 
 -- the test of a branch, then the rest
-pub tested-then : (f : Role → Reader) (k : Reading) (s : List ℕ) → tested f k s ≡ andThen (tested f nothing s) (shift (testEnd s) (k (drop (testEnd s) s)))
+tested-then : (f : Role → Reader) (k : Reading) (s : List ℕ) → tested f k s ≡ andThen (tested f nothing s) (shift (testEnd s) (k (drop (testEnd s) s)))
 unfolding tested flaggedAt testEndOf
 tested-then f k s = by-flag (flagOf s)
   where

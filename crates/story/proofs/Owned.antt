@@ -64,12 +64,12 @@ module _ {file : List ℕ} where
 
 module _ {file : List ℕ} {b : ℕ} {t : List ℕ} (l : Lies file b t) where
   -- names to the end
-  pub names-own : ends (names t) ≡ well → Own file b (b + length t) (namesIn b t)
+  names-own : ends (names t) ≡ well → Own file b (b + length t) (namesIn b t)
   unfolding namesIn
   names-own good = record { rise = names-rise (length t) b t; within = name-within (length t) b t; as-file = names-as-file (length t) t l good }
 
   -- a count byte and so many names
-  pub counted-own : (p e : ℕ) → countedReach t p ≡ reach.To e → Own file (b + p) (b + e) (countedIn (b + p) (drop p t))
+  counted-own : (p e : ℕ) → countedReach t p ≡ reach.To e → Own file (b + p) (b + e) (countedIn (b + p) (drop p t))
   unfolding countedIn part
   counted-own p e q = record { rise = counted-rise (b + p) (drop p t); within = between; as-file = counted-as-file l p q }
     where
@@ -129,7 +129,7 @@ module _ {file : List ℕ} {b : ℕ} {t : List ℕ} (l : Lies file b t) (good : 
   labels-as-file m k = let o = label-of b t m k in rw (o .3) (label-as-file l good (o .0) (o .1) (o .2) .name)
 
   -- the labels of a body
-  pub labels-own : Own file b (b + length t) (labelNames (itemsIn b t))
+  labels-own : Own file b (b + length t) (labelNames (itemsIn b t))
   unfolding labelNames
   labels-own = record { rise = rising; within = labels-within; as-file = labels-as-file }
     where
@@ -201,7 +201,7 @@ module _ {A : Type 0} {file : List ℕ} (r : Reading) (g : ℕ → List ℕ → 
             (own-wider (omega arith) (omega (arith, length-drop (4 + k) t)) (later k e))
         by-span (Span.Refused x) e later = own-none at (at + length t)
 
-    pub pieces-own : (at : ℕ) (t : List ℕ) → Lies file at t → ends (repeat (piece r) t) ≡ well → Own file at (at + length t) (each f (piecesIn g at t))
+    pieces-own : (at : ℕ) (t : List ℕ) → Lies file at t → ends (repeat (piece r) t) ≡ well → Own file at (at + length t) (each f (piecesIn g at t))
     unfolding piecesIn
     pieces-own at t l good = pieces-own-n (length t) at t l good
 
@@ -232,15 +232,15 @@ module _ (c : Sections) (s : List ℕ) (r : Readable c s) where
   section : {a b : ℕ} {l : List Name} → a ≤ b → b ≤ length s → Own s a (a + length (part a b s)) l → Own s a b l
   section {a} {b} p q o = own-wider (omega arith) (omega (arith, part-length a b s q)) o
 
-  pub globals-own : Own s 0 (c .externals) (storyIn c s .globals)
+  globals-own : Own s 0 (c .externals) (storyIn c s .globals)
   unfolding storyIn
   globals-own = section (omega arith) (omega (arith, r .order)) (names-own (lies-in-file s 0 (c .externals)) (r .globals))
 
-  pub root-own : Own s (c .root) (c .flows) (labelNames (storyIn c s .root))
+  root-own : Own s (c .root) (c .flows) (labelNames (storyIn c s .root))
   unfolding storyIn
   root-own = section (r .order .root) (omega (arith, r .order)) (labels-own (lies-in-file s (c .root) (c .flows)) (r .root))
 
-  pub flows-own : Own s (c .flows) (c .end) (each flowNames (storyIn c s .flows))
+  flows-own : Own s (c .flows) (c .end) (each flowNames (storyIn c s .flows))
   unfolding storyIn flowsIn
   flows-own =
       section (r .order .flows) (omega (arith, r .order))

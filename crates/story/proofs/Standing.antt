@@ -34,7 +34,7 @@ title-places k g s (heading.At h) e =
     (placed-wider s (shift (h .nodes) (nodes (take n (drop (h .nodes) s)))) (omega arith) (omega (arith, laid)) own) (rest-placed (h .end) s k g (laid .within))
 title-places k g s (heading.Refused x) e = tt
 
-pub titled-places : (k : Reading) → Places k → Places (titled k)
+titled-places : (k : Reading) → Places k → Places (titled k)
 titled-places k g s = rw (titled-trace k s) (title-places k g s (headingOf s) refl)
 
 pub pieces-places : (g : Reading) → Places g → Places (repeat (piece g))
@@ -44,7 +44,7 @@ pub stitch-places : Places stitch
 unfolding stitch
 stitch-places s = titled-places ending ending-places s
 
-pub flow-places : Places flow
+flow-places : Places flow
 unfolding flow
 flow-places s = let rest = titled-places stitches (pieces-places stitch stitch-places) in flagged-places (titled stitches) (titled stitches) rest rest s
 
@@ -79,11 +79,11 @@ module _ (c : Sections) (s : List ℕ) (o : InOrder c s) where
       (placed-then s {lo = 0} {mid = 0} {hi = length s} x (andThen root rest) (omega arith) (omega arith) (names-placed (take (c .root - c .externals) (drop (c .externals) s))) behind)
 
   -- places rise across the whole file
-  pub records-rise : Sorted (λ (x y : Record). x .place < y .place) (met 0 (sectionsRead c s))
+  records-rise : Sorted (λ (x y : Record). x .place < y .place) (met 0 (sectionsRead c s))
   records-rise = met-rising s 0 (length s) 0 (sectionsRead c s) sections-placed
 
   -- a record stands in the file at its place
-  pub record-stands : (r : Record) → List·Memᴰ r (met 0 (sectionsRead c s)) → Stands s (r .place) (r .kind) (r .payload) × (r .place < length s)
+  record-stands : (r : Record) → List·Memᴰ r (met 0 (sectionsRead c s)) → Stands s (r .place) (r .kind) (r .payload) × (r .place < length s)
   record-stands r m =
       let x = met-placed s 0 (length s) 0 (sectionsRead c s) sections-placed r m in
       let e : x .0 ≡ r .place = omega (arith, x .1) in
