@@ -27,10 +27,10 @@ use Rattle.fields.proofs.Laws.{span-to, span-refused, head-to, head-refused, to
 use Rattle.records.specs.declared.Walk.{Walk}
 use Rattle.records.specs.declared.Walk.the-variants as walk
 use Rattle.records.specs.Trace.{Trace, done, refuse, andThen, shift}
-use Rattle.records.specs.Grammar.{Reading, Reader, frontAt, front, nothing, ending, records, pieceAt, piece, namedAt, named, flaggedAt, flagged, moded, bodyOf, whole, tooDeep, recordOf}
+use Rattle.records.specs.Grammar.{Reading, Reader, frontAt, front, nothing, ending, records, repeat, pieceAt, piece, namedAt, named, flaggedAt, flagged, moded, bodyOf, whole, tooDeep, recordOf}
 use Rattle.records.specs.Work.{St, st, Ran, ended, broke, Visitor, bind, run, walkOf, ranOut, Told, endOf}
 use Rattle.records.proofs.Traces.{then-done, shift-done, run-then, run-shift}
-use Rattle.records.proofs.Readings.{repeat-none}
+use Rattle.records.proofs.Readings.{repeat-none, repeat-step, piece-local}
 
 -- 1. What an answer and what was written say. `x` is the run of a part, and `k` what follows it.
 
@@ -126,6 +126,22 @@ module _ (v : Visitor St) (b : ℕ) (s₀ : St) where
   pub sized-alone : (g : Reading) (s : List ℕ) (to : ℕ) {r : Reach} {w : Walk} {o : List ℕ} → r ≡ spanReach 4 (listOf s) → r ≡ reach.To to
       → Told (run v (b + 4) s₀ (g (take (to - 4) (drop 4 s)))) w o → Told (run v b s₀ (piece g nothing s)) w o
   sized-alone g s to e q h = rw (sized-at g nothing s to e q, shift-done to, then-done (shift 4 (g (take (to - 4) (drop 4 s))))) (in-sized g s to h)
+
+  -- such pieces to the end
+  module _ (g : Reading) (s : List ℕ) where
+    pub pieces-none : length s ≤ 0 → Told (run v b s₀ (repeat (piece g) s)) (walk.Done (s₀ .n)) (s₀ .out)
+    pieces-none none = told-done v b s₀ (repeat (piece g) s) (repeat-none (piece g) s none)
+
+    module _ (some : 0 < length s) {r : Reach} (e : r ≡ spanReach 4 (listOf s)) where
+      pub pieces-refused : (x : Refusal) → r ≡ reach.Refused x → Told (run v b s₀ (repeat (piece g) s)) (walk.Refused x) (s₀ .out)
+      pieces-refused x q = rw (repeat-step (piece g) (piece-local g) s some) (sized-refused g (repeat (piece g)) s x e q)
+
+      module _ (to : ℕ) {w : Walk} {o : List ℕ} (q : r ≡ reach.To to) (h : Told (run v (b + 4) s₀ (g (take (to - 4) (drop 4 s)))) w o) where
+        pub pieces-on : (m : ℕ) → w ≡ walk.Done m → run v b s₀ (repeat (piece g) s) ≡ run v (b + to) (st o m) (repeat (piece g) (take (length s - to) (drop to s)))
+        pieces-on m z = rw (repeat-step (piece g) (piece-local g) s some) (sized-on g (repeat (piece g)) s to m e q h z)
+
+        pub pieces-else : {x : Refusal} → w ≡ walk.Refused x → Told (run v b s₀ (repeat (piece g) s)) w o
+        pieces-else z = rw (repeat-step (piece g) (piece-local g) s some) (sized-else g (repeat (piece g)) s to e q h z)
 
   -- a name
   pub named-refused : (k : Reading) (s : List ℕ) (x : Refusal) {r : Reach} → r ≡ spanReach 1 (nameOf s) → r ≡ reach.Refused x

@@ -21,7 +21,7 @@ pub mod JoinedFlows
 pub mod Whole
 pub mod WholeExample
 pub mod Titled
-pub mod PieceWalks
+pub mod TitleWalks
 pub mod SectionWalks
 pub mod StoryItems
 pub mod Weights

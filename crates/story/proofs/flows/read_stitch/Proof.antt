@@ -6,7 +6,7 @@ use Rattle.records.specs.Grammar.{ending}
 use Rattle.records.specs.Work.{st, keeping}
 use Rattle.records.proofs.Walking.{told-end}
 use Rattle.story.specs.Flows.{stitch}
-use Rattle.story.proofs.PieceWalks.{title-fits, titled-on, titled-else}
+use Rattle.story.proofs.TitleWalks.{title-fits, titled-on, titled-else}
 use borrow.Author.Needs.{needs}
 use Rattle.story.proofs.flows.read_stitch.Statement.{statement}
 use Rattle.story.proofs.flows.read_stitch.Tie as tie

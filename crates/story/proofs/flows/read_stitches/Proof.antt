@@ -7,7 +7,7 @@ use Rattle.fields.proofs.Laws.{list-within}
 use Rattle.records.specs.Grammar.{repeat, piece}
 use Rattle.story.specs.Flows.{stitch}
 use Rattle.records.specs.Work.{run, st, keeping}
-use Rattle.story.proofs.PieceWalks.{pieces-refused, pieces-on, pieces-else, pieces-none}
+use Rattle.records.proofs.Walking.{pieces-refused, pieces-on, pieces-else, pieces-none}
 use borrow.Author.Needs.{needs}
 use Rattle.story.proofs.flows.read_stitches.Statement.{statement}
 use Rattle.story.proofs.flows.read_stitches.Tie as tie

@@ -2,7 +2,7 @@
 use native.Mathlib.Omega.{arith}
 use Rattle.records.specs.Work.{st, keeping}
 use Rattle.story.proofs.Reaches.{Laid, heading-laid}
-use Rattle.story.proofs.PieceWalks.{title-refused, title-answers}
+use Rattle.story.proofs.TitleWalks.{title-refused, title-answers}
 use borrow.Author.Needs.{needs}
 use Rattle.story.proofs.flows.read_title.Statement.{statement}
 use Rattle.story.proofs.flows.read_title.Tie as tie

@@ -4,7 +4,7 @@ use native.Mathlib.Omega.{arith}
 use lib.ListN.{length}
 use Rattle.records.specs.Work.{st, keeping}
 use Rattle.story.specs.Flows.{stitches}
-use Rattle.story.proofs.PieceWalks.{title-fits, titled-on, titled-else}
+use Rattle.story.proofs.TitleWalks.{title-fits, titled-on, titled-else}
 use borrow.Author.Needs.{needs}
 use Rattle.story.proofs.flows.read_unflagged.Statement.{statement}
 use Rattle.story.proofs.flows.read_unflagged.Tie as tie

@@ -7,8 +7,7 @@ use Rattle.fields.specs.declared.Role.the-variants.{Node}
 use Rattle.fields.proofs.Laws.{list-within}
 use Rattle.records.specs.Grammar.{recordOf, repeat, listed, records}
 use Rattle.records.specs.Work.{run, st, keeping}
-use Rattle.records.proofs.Readings.{repeat-none, repeat-step, piece-local}
-use Rattle.records.proofs.Walking.{sized-refused, sized-else, sized-on, told-done}
+use Rattle.records.proofs.Walking.{pieces-none, pieces-refused, pieces-else, pieces-on}
 use borrow.Author.Needs.{needs}
 use Rattle.records.proofs.walker.lists.Reads as walk-lists
 use Rattle.records.proofs.walker.+arms+assign+body+branch+branches+call+choice+conditional+else_arm+exact+first+front_list+label+last+list+lists+options+record+set+switch+test.Lts-lists as lts
@@ -35,7 +34,7 @@ module _ (t : ℕ) where
       let a = c .before .before .before .before .before .before .before .before .args in
       let l = c .before .before .before .before .before .loop in
       let k = c .before .reach .given in
-      rw (l .inv .1, repeat-step (listed (recordOf (a .left) Node)) (piece-local (records (recordOf (a .left) Node))) (l .t .now) (c .before .before .before .before .loop-test .taken)) (sized-refused keeping (l .at) (st (l .out) (l .count)) (records (recordOf (a .left) Node)) (repeat (listed (recordOf (a .left) Node))) (l .t .now) (k .0 .0) (c .before .before .before .read-list .ensures) (k .1))
+      rw (l .inv .1) (pieces-refused keeping (l .at) (st (l .out) (l .count)) (records (recordOf (a .left) Node)) (l .t .now) (c .before .before .before .before .loop-test .taken) (c .before .before .before .read-list .ensures) (k .0 .0) (k .1))
 
   sub-piece : lts.Need-sub-list (walk-lists-uses t) (walk-lists-at t) walk-lists.Post Inv μ
   sub-piece c = fits c .0
@@ -59,7 +58,7 @@ module _ (t : ℕ) where
       let a = c .before .before .before .before .before .before .before .before .before .before .before .before .before .before .before .args in
       let l = c .before .before .before .before .before .before .before .before .before .before .before .before .loop in
       let k = c .before .before .before .before .before .before .before .before .reach2 .given in
-      rw (l .inv .1, repeat-step (listed (recordOf (a .left) Node)) (piece-local (records (recordOf (a .left) Node))) (l .t .now) (c .before .before .before .before .before .before .before .before .before .before .before .loop-test .taken)) (sized-else keeping (l .at) (st (l .out) (l .count)) (records (recordOf (a .left) Node)) (repeat (listed (recordOf (a .left) Node))) (l .t .now) (k .0 .0) (c .before .before .before .before .before .before .before .before .before .before .read-list .ensures) (k .1) (c .before .before .before .before .list .ensures) (c .enum-told .given .1))
+      rw (l .inv .1) (pieces-else keeping (l .at) (st (l .out) (l .count)) (records (recordOf (a .left) Node)) (l .t .now) (c .before .before .before .before .before .before .before .before .before .before .before .loop-test .taken) (c .before .before .before .before .before .before .before .before .before .before .read-list .ensures) (k .0 .0) (k .1) (c .before .before .before .before .list .ensures) (c .enum-told .given .1))
 
   add-at : lts.Need-add-at (walk-lists-uses t) (walk-lists-at t) walk-lists.Post Inv μ
   add-at c = omega (arith, fits (c .before .before .before .before .before .before .before .before), c .before .before .before .before .before .before .before .before .before .before .before .before .before .loop .inv .0, c .before .before .before .before .before .before .before .before .before .before .before .before .before .before .before .before .pre .1)
@@ -81,14 +80,14 @@ module _ (t : ℕ) where
       let list = c .before .before .before .before .before .before .list in
       let w = c .before .before .w .given in (
         omega (arith, fits (c .before .before .before .before .before .before .before .before .before), c .t .given .2, l .inv .0, list .kept),
-        l .inv .1 ∙ rw (repeat-step (listed (recordOf (a .left) Node)) (piece-local (records (recordOf (a .left) Node))) (l .t .now) (c .before .before .before .before .before .before .before .before .before .before .before .before .before .loop-test .taken)) (sized-on keeping (l .at) (st (l .out) (l .count)) (records (recordOf (a .left) Node)) (repeat (listed (recordOf (a .left) Node))) (l .t .now) (k .0 .0) (w .0 .0) (c .before .before .before .before .before .before .before .before .before .before .before .before .read-list .ensures) (k .1) (list .ensures) (w .1)),
+        l .inv .1 ∙ pieces-on keeping (l .at) (st (l .out) (l .count)) (records (recordOf (a .left) Node)) (l .t .now) (c .before .before .before .before .before .before .before .before .before .before .before .before .before .loop-test .taken) (c .before .before .before .before .before .before .before .before .before .before .before .before .read-list .ensures) (k .0 .0) (k .1) (list .ensures) (w .0 .0) (w .1),
       )
 
   finished : lts.Need-returns-3 (walk-lists-uses t) (walk-lists-at t) walk-lists.Post Inv μ
   finished c =
       let a = c .before .before .before .before .args in
       let l = c .before .loop in
-      rw (l .inv .1) (told-done keeping (l .at) (st (l .out) (l .count)) (repeat (listed (recordOf (a .left) Node)) (l .t .now)) (repeat-none (listed (recordOf (a .left) Node)) (l .t .now) (c .loop-test .left)))
+      rw (l .inv .1) (pieces-none keeping (l .at) (st (l .out) (l .count)) (records (recordOf (a .left) Node)) (l .t .now) (c .loop-test .left))
 
   pub ok : {M : Type 1} → lts.Closed (walk-lists-uses t) (walk-lists-at t) walk-lists.Post M
   ok = lts.spec (walk-lists-uses t) (walk-lists-at t) walk-lists.Post Inv μ holds (λ c κs. search needs) (λ c. search needs) (λ c. search needs) refused (λ c. search needs) sub-piece part-start part-end add-4 piece-requires (λ c. search needs) (λ c. search needs) (λ c. search needs) inside-refused add-at sub-t part-t (λ c. search needs) less again (λ c. search needs) finished

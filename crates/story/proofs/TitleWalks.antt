@@ -1,15 +1,12 @@
--- Titles and pieces as the reading goes through them. Assumes nothing.
+-- Titles as the reading goes through them. Assumes nothing.
 use mathlib.Core.Path.{_≡_, refl, sym}
 use mathlib.Core.List.{List}
-use Prim.Native.Nat.{ℕ, _+_, _-_, _≤_, _<_}
+use Prim.Native.Nat.{ℕ, _+_, _-_, _≤_}
 use native.Mathlib.Omega.{arith}
 use lib.ListN.{length, take, drop}
 use Rattle.fields.specs.declared.Refusal.{Refusal}
-use Rattle.fields.specs.declared.Reach.{Reach}
-use Rattle.fields.specs.declared.Reach.the-variants as reach
-use Rattle.fields.specs.Bytes.{listOf, spanReach}
 use Rattle.records.specs.Trace.{andThen, shift}
-use Rattle.records.specs.Grammar.{Reading, nothing, repeat, nodes, piece}
+use Rattle.records.specs.Grammar.{Reading, nothing, nodes}
 use Rattle.story.specs.declared.Heading.{Heading}
 use Rattle.story.specs.declared.HeadingRead.{HeadingRead}
 use Rattle.story.specs.declared.HeadingRead.the-variants as heading
@@ -21,15 +18,12 @@ use Rattle.records.specs.declared.Walk.{Walk}
 use Rattle.records.specs.declared.Walk.the-variants as walk
 use Rattle.records.specs.Work.{St, st, Visitor, run, Told, pieceOf, ToldTo}
 use Rattle.records.proofs.Traces.{then-done, refuse-then, shift-done, run-shift}
-use Rattle.records.proofs.Readings.{repeat-none, repeat-step, piece-local}
-use Rattle.records.proofs.Walking.{told-refused, told-done, sized-refused, sized-on, sized-else}
+use Rattle.records.proofs.Walking.{told-refused}
 use Rattle.records.proofs.PiecesRead.{piece-answers, piece-refused, piece-on, piece-else, piece-within}
 use Rattle.story.proofs.Reaches.{heading-laid}
 use Rattle.story.proofs.Titled.{titleTrace, titled-trace}
 
 module _ (v : Visitor St) (b : ℕ) (s₀ : St) where
-  -- 1. A title with its nodes
-
   pub title-refused : (s : List ℕ) (x : Refusal) {r : HeadingRead} → r ≡ headingOf s → r ≡ heading.Refused x
       → ToldTo (run v b s₀ (titled nothing s)) (titleEnd (headingOf s)) (piece-read.Refused x) (s₀ .out)
   unfolding titleTrace
@@ -75,20 +69,3 @@ module _ (v : Visitor St) (b : ℕ) (s₀ : St) where
       titled-else k =
           let to = titleEnd (headingOf s) in
           piece-else v b s₀ (titled nothing s) to g (shift to (k (drop to s))) (titled k s) (titled-then k)
-
-  -- 2. Pieces behind their lengths, to the end
-
-  module _ (g : Reading) (s : List ℕ) where
-    pub pieces-none : length s ≤ 0 → Told (run v b s₀ (repeat (piece g) s)) (walk.Done (s₀ .n)) (s₀ .out)
-    pieces-none none = told-done v b s₀ (repeat (piece g) s) (repeat-none (piece g) s none)
-
-    module _ (some : 0 < length s) {r : Reach} (e : r ≡ spanReach 4 (listOf s)) where
-      pub pieces-refused : (x : Refusal) → r ≡ reach.Refused x → Told (run v b s₀ (repeat (piece g) s)) (walk.Refused x) (s₀ .out)
-      pieces-refused x q = rw (repeat-step (piece g) (piece-local g) s some) (sized-refused v b s₀ g (repeat (piece g)) s x e q)
-
-      module _ (to : ℕ) {w : Walk} {o : List ℕ} (q : r ≡ reach.To to) (f : Told (run v (b + 4) s₀ (g (take (to - 4) (drop 4 s)))) w o) where
-        pub pieces-on : (m : ℕ) → w ≡ walk.Done m → run v b s₀ (repeat (piece g) s) ≡ run v (b + to) (st o m) (repeat (piece g) (take (length s - to) (drop to s)))
-        pieces-on m z = rw (repeat-step (piece g) (piece-local g) s some) (sized-on v b s₀ g (repeat (piece g)) s to m e q f z)
-
-        pub pieces-else : {x : Refusal} → w ≡ walk.Refused x → Told (run v b s₀ (repeat (piece g) s)) w o
-        pieces-else z = rw (repeat-step (piece g) (piece-local g) s some) (sized-else v b s₀ g (repeat (piece g)) s to e q f z)
