@@ -103,13 +103,10 @@ struct Growth<'c> {
 
 /// All growths in the order of the report.
 fn growths(cells: &[Cell]) -> impl Iterator<Item = Growth<'_>> {
-    let pairs = cells
-        .windows(2)
-        .filter(|pair| pair[0].family == pair[1].family);
-    pairs.map(|pair| Growth {
-        less: &pair[0],
-        more: &pair[1],
-    })
+    let pairs = cells.iter().zip(cells.iter().skip(1));
+    pairs
+        .filter(|(less, more)| less.family == more.family)
+        .map(|(less, more)| Growth { less, more })
 }
 
 impl Growth<'_> {

@@ -125,8 +125,7 @@ fn sections<'f>(file: &'f [u8], met: &RefCell<Vec<Record>>) -> Reading<Story<'f>
         return Err(2);
     }
     let starts: Vec<usize> = (0..4).map(|n| number_at(file, trailer + 4 * n)).collect();
-    let falls = starts.windows(2).any(|pair| pair[1] < pair[0]);
-    if starts[0] != 0 || falls || starts[3] > trailer {
+    if starts[0] != 0 || !starts.is_sorted() || starts[3] > trailer {
         return Err(3);
     }
     let part = |from, to| Part {
