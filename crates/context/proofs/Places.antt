@@ -26,7 +26,8 @@ use Rattle.searches.proofs.Parts.{part-none}
 use Rattle.searches.proofs.Viewed.{FlowLaid, flow-laid, stitch-laid}
 use Rattle.searches.proofs.Readable.{flow-readable, no-flow}
 use Rattle.items.specs.Bodies.{keptStory, keptStitch, keptStitches, keptFlow, Kept, StitchesKept}
-use Rattle.items.proofs.Kept.{kept-rising, kept-flows, root-plain, flow-stitches, flow-rest, flows-plain, flow-labels, stitch-rest, stitches-plain}
+use Rattle.items.specs.Runs.{numbersFrom}
+use Rattle.items.proofs.Kept.{kept-rising, kept-flows, root-plain, flow-stitches, flow-rest, flows-plain, flow-labels, stitch-rest, stitches-plain, flows-from}
 use Rattle.rules.specs.Rules.{here, root, knot, stitch}
 use Rattle.rules.proofs.Order.{same-here}
 use Rattle.checks.specs.Context.{countedAt, declaredAt, hereAt, StitchesReady, ScopeReady}
@@ -144,6 +145,16 @@ module _ (file kept : List ℕ) (at end : ℕ) (ready : FlowsReady file kept at 
 
     pub flows-fewer : end - v .end < end - at
     flows-fewer = let o = flow-order in omega arith
+
+-- for the flows from a place on, the numbers from that place on will do
+pub flows-ready-from : {file kept rest : List ℕ} {at end : ℕ} → rest ≡ numbersFrom at kept → FlowsReady file kept at end → FlowsReady file rest at end
+flows-ready-from q ready = record {
+  ordered = ready .ordered;
+  within = ready .within;
+  short = ready .short;
+  good = ready .good;
+  own = flows-from q (ready .own);
+}
 
 module _ (file : List ℕ) (at end : ℕ) (ready : StitchesReady file at end) {r : StitchViewRead} (told : r ≡ stitchViewOf file at end) where
   pub no-stitches : r ≡ stitch-read.None → keptStitches file at end ≡ []

@@ -25,6 +25,7 @@ use crate::structure::validate_flow_parameter_names;
 use crate::structure::validate_function_purity;
 use crate::structure::validate_stitch_name;
 use filters::declared::put_declared;
+use items::runs::count_before;
 use searches::views::FlowView;
 use searches::views::FlowViewRead;
 use searches::views::StitchView;
@@ -361,6 +362,7 @@ fn validate_flows(
 {
     let end = c.end;
     let mut at = c.flows;
+    let mut rest = kept;
     loop {
         let FlowViewRead::View(v) = flow_view(file, at, end) else {
             return Found::Clear;
@@ -369,7 +371,7 @@ fn validate_flows(
         let found = validate_whole_flow(
             file,
             c,
-            kept,
+            rest,
             index,
             count,
             functions,
@@ -382,6 +384,8 @@ fn validate_flows(
             return found;
         }
         at = v.end;
+        let behind = count_before(rest, at);
+        rest = &rest[behind..];
     }
 }
 

@@ -1,7 +1,7 @@
 -- Where places rise, the numbers with places before another stand first: so a search by halves counts them, and a run of places is cut out. Assumes nothing.
-use mathlib.Core.Path.{_≡_, refl}
+use mathlib.Core.Path.{_≡_, refl, sym, _∙_}
 use mathlib.Core.Bool.{Bool, true, false, not, _&&_}
-use mathlib.Core.List.{List, [], _∷_, List·Memᴰ, List·Memᴰ·head, List·Memᴰ·tail, List·Memᴰ·cases-cons}
+use mathlib.Core.List.{List, [], _∷_, List·Memᴰ, List·Memᴰ·head, List·Memᴰ·tail, List·Memᴰ·cases-cons, List·Memᴰ·not-nil}
 use mathlib.Core.Logic.{_⊎_, inl, inr}
 use Prim.Native.Nat.{ℕ, zero, suc, _-_, _≤_, _<_}
 use native.Mathlib.Omega.{arith}
@@ -12,7 +12,7 @@ use borrow.Author.Tests.{ltb-false, lt-ltb, le-ltb}
 use Rattle.fields.specs.Bytes.{pick}
 use Rattle.records.specs.Numbers.{placeIn, between}
 use Rattle.items.specs.Bodies.{Rising}
-use Rattle.items.specs.Runs.{numberBefore}
+use Rattle.items.specs.Runs.{numberBefore, numbersFrom}
 
 -- 1. How many have a place before p
 
@@ -102,25 +102,48 @@ module _ (from to : ℕ) where
           let on = ltb-false (placeIn x) from e in
           rw (number-none from xs (onward-after from x xs h on)) (rw e at (onward-run (x ∷ xs) h (onward-all from x xs h on)))
 
--- 3. What the code cuts: from a slot on, and of that as many as have a place before the second
+-- 3. The numbers from a place on
 
--- all from a slot on
-rest-all : (n : ℕ) (xs : List ℕ) → take (length xs - n) (drop n xs) ≡ drop n xs
-rest-all n xs = take-all (length xs - n) (drop n xs) (omega (arith, length-drop n xs))
+-- all of them are from the place on
+from-onward : (p : ℕ) (xs : List ℕ) → Rising xs → Onward p (numbersFrom p xs)
+unfolding numberBefore
+from-onward p [] h = λ y m. absurd (List·Memᴰ·not-nil m)
+from-onward p (x ∷ xs) h = by-test (ltb (placeIn x) p) refl (from-onward p xs (h .1))
+  where
+    by-test : (b : Bool) → ltb (placeIn x) p ≡ b → Onward p (numbersFrom p xs) → Onward p (drop (pick b (suc (numberBefore p xs)) (numberBefore p xs)) (x ∷ xs))
+    by-test true e r = r
+    by-test false e r =
+        let on = ltb-false (placeIn x) p e in
+        rw (number-none p xs (onward-after p x xs h on)) (onward-all p x xs h on)
 
 rising-drop : (n : ℕ) (xs : List ℕ) → Rising xs → Rising (drop n xs)
 rising-drop zero xs h = h
 rising-drop (suc n) [] h = h
 rising-drop (suc n) (x ∷ xs) h = rising-drop n xs (h .1)
 
-pub rest-rising : (n : ℕ) (xs : List ℕ) → Rising xs → Rising (take (length xs - n) (drop n xs))
-rest-rising n xs h = rw (rest-all n xs) (rising-drop n xs h)
+pub from-rising : (p : ℕ) (xs : List ℕ) → Rising xs → Rising (numbersFrom p xs)
+from-rising p xs h = rising-drop (numberBefore p xs) xs h
+
+-- a run that begins at the place is the same run of them
+pub from-run : (p to : ℕ) (xs : List ℕ) → Rising xs → between p to (numbersFrom p xs) ≡ between p to xs
+from-run p to xs h =
+    let rest = numbersFrom p xs in
+    sym (onward-run p to rest (from-rising p xs h) (from-onward p xs h)) ∙ rising-run p to xs h
+
+-- 4. What the code cuts: of those from a place on, as many as have a place before the second
+
+-- all from a slot on
+rest-all : (n : ℕ) (xs : List ℕ) → take (length xs - n) (drop n xs) ≡ drop n xs
+rest-all n xs = take-all (length xs - n) (drop n xs) (omega (arith, length-drop n xs))
+
+pub from-cut : (p : ℕ) (xs : List ℕ) {n : ℕ} → n ≡ numberBefore p xs → take (length xs - n) (drop n xs) ≡ numbersFrom p xs
+from-cut p xs {n} q = rw (rest-all n xs, q)
+
+pub rest-shorter : (n : ℕ) (xs : List ℕ) → length (take (length xs - n) (drop n xs)) ≤ length xs
+rest-shorter n xs = omega (arith, length-take (length xs - n) (drop n xs))
 
 pub cut-length : (to : ℕ) (ys : List ℕ) {m : ℕ} → m ≡ numberBefore to ys → m ≡ length (take m ys)
 cut-length to ys {m} q = omega (arith, q, number-fits to ys, length-take m ys)
 
-pub cut-run : (from to : ℕ) (xs : List ℕ) → Rising xs → {n m : ℕ} → n ≡ numberBefore from xs → m ≡ numberBefore to (take (length xs - n) (drop n xs))
-    → take m (take (length xs - n) (drop n xs)) ≡ between from to xs
-cut-run from to xs h {n} {m} p q =
-    let e : m ≡ numberBefore to (drop (numberBefore from xs) xs) = rw (rest-all n xs, p) at q in
-    rw (rest-all n xs, p, e) (rising-run from to xs h)
+pub cut-run : (from to : ℕ) (xs : List ℕ) → Rising xs → {ys : List ℕ} {m : ℕ} → ys ≡ numbersFrom from xs → m ≡ numberBefore to ys → take m ys ≡ between from to xs
+cut-run from to xs h p q = rw (q, p) (rising-run from to xs h)

@@ -34,7 +34,9 @@ use Rattle.searches.specs.Views.{stitchViewOf, flowViewOf, viewedStitch, viewed
 use Rattle.searches.proofs.Viewed.{StitchLaid, stitch-viewed, stitch-laid, FlowLaid, flow-viewed, flow-laid}
 use Rattle.searches.proofs.Readable.{stitch-readable, GoodFlow, flow-readable}
 use Rattle.items.specs.Bodies.{bodyIn, itemsAt, keptIn, Rising, keptStitch, keptStitches, keptFlow, Kept, BodyKept, StitchesKept, FlowsKept}
+use Rattle.items.specs.Runs.{numbersFrom}
 use Rattle.items.specs.Search.{labelIn}
+use Rattle.items.proofs.Halves.{from-rising, from-run}
 use Rattle.items.proofs.Labels.{labels-append, stitches-labels}
 
 -- 1. Numbers kept of items whose places rise
@@ -244,3 +246,12 @@ module _ (file kept : List ℕ) (at end : ℕ) (ordered : at ≤ end) (within : 
   -- the stitches from the place on: this one, then those after it
   pub stitches-plain : keptStitches file at end ≡ keptStitch file kept w ∷ keptStitches file (w .end) end
   stitches-plain = rw (stitch-viewed file at end w told given, stitch-plain)
+
+-- 6. For what stands from a place on, the numbers from that place on will do
+
+module _ {file kept rest : List ℕ} {at end : ℕ} (q : rest ≡ numbersFrom at kept) where
+  pub flows-from : FlowsKept file kept at end → FlowsKept file rest at end
+  flows-from k = rw q (record { rising = from-rising at kept (k .rising); run = from-run at end kept (k .rising) ∙ k .run })
+
+  pub stitches-from : StitchesKept file kept at end → StitchesKept file rest at end
+  stitches-from k = rw q (record { rising = from-rising at kept (k .rising); run = from-run at end kept (k .rising) ∙ k .run })

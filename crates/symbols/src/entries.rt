@@ -19,6 +19,7 @@ use crate::Places;
 use items::items::is_labelled;
 use items::items::named_at;
 use items::runs::body_items;
+use items::runs::count_before;
 use names::name_at;
 use searches::views::FlowView;
 use searches::views::FlowViewRead;
@@ -172,13 +173,16 @@ fn put_stitches(
     ensures { λ r. ⌜ st (now (index .exit)) r ≡ storeAll (st (now (index .entry)) n) (each (stitchPlaced flow) (keptStitches (now (file .entry)) from end)) ⌝ }
 {
     let mut at = from;
+    let mut rest = kept;
     let mut count = n;
     loop {
         let StitchViewRead::View(v) = stitch_view(file, at, end) else {
             return count;
         };
-        count = put_stitch(file, kept, v, flow, index, count);
+        count = put_stitch(file, rest, v, flow, index, count);
         at = v.end;
+        let behind = count_before(rest, at);
+        rest = &rest[behind..];
     }
 }
 
@@ -232,13 +236,16 @@ fn put_flows(
     ensures { λ r. ⌜ st (now (index .exit)) r ≡ storeAll (st (now (index .entry)) n) (placed (each flowEntries (map flowWithoutPlain (flowsIn from (part from end (now (file .entry))))))) ⌝ }
 {
     let mut at = from;
+    let mut rest = kept;
     let mut count = n;
     loop {
         let FlowViewRead::View(v) = flow_view(file, at, end) else {
             return count;
         };
-        count = put_flow(file, kept, v, index, count);
+        count = put_flow(file, rest, v, index, count);
         at = v.end;
+        let behind = count_before(rest, at);
+        rest = &rest[behind..];
     }
 }
 

@@ -1,17 +1,19 @@
 -- `items::runs::body_items` meets its contract. Assumes nothing.
 use borrow.Author.Needs.{needs}
-use Rattle.items.proofs.Halves.{rest-rising, cut-length, cut-run}
+use Rattle.items.proofs.Halves.{from-cut, from-rising, cut-length, cut-run}
 use Rattle.items.proofs.runs.body_items.Statement.{statement}
 use Rattle.items.proofs.runs.body_items.Tie as tie
 
 count-before-requires-2 : tie.Need-count-before-requires-2
-count-before-requires-2 c κs = let start = c .before .before .before in rest-rising (c .before .count-before .result) (start .args .kept .now) (start .pre)
+count-before-requires-2 c κs = let start = c .before .before .before in rw (from-cut _ _ (c .before .count-before .ensures .0)) (from-rising _ _ (start .pre))
 
 slice-aggregate-result : tie.Need-slice-aggregate-result
 slice-aggregate-result c = cut-length _ _ (c .before .count-before2 .ensures .0)
 
 returns : tie.Need-returns
-returns c = cut-run _ _ _ (c .before .before .before .before .before .pre) (c .before .before .before .count-before .ensures .0) (c .before .count-before2 .ensures .0)
+returns c =
+    let start = c .before .before .before .before .before in
+    cut-run _ _ _ (start .pre) (from-cut _ _ (c .before .before .before .count-before .ensures .0)) (c .before .count-before2 .ensures .0)
 
 pub body-items-spec : {M : Type 1} → statement M
 body-items-spec =

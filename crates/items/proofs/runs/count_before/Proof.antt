@@ -1,5 +1,5 @@
 -- `items::runs::count_before` meets its contract. The invariant: the count is from low to high. Assumes nothing.
-use Prim.Native.Nat.{_+_, _-_, _/_, _≤_}
+use Prim.Native.Nat.{_-_, _≤_}
 use native.Mathlib.Omega.{arith}
 use borrow.Author.Needs.{needs}
 use lib.ListN.{length}
@@ -19,16 +19,16 @@ loop-holds c = (omega arith, number-fits _ _, omega arith)
 
 loop-again : tie.Need-loop-again Inv-loop μ-loop
 loop-again c =
-    let start = c .before .before .before .before .before .before in
-    let o = c .before .before .before .before .loop in
-    let right = halved-right (start .args .place) (start .args .kept .now) (o .low + (o .high - o .low) / 2) (start .pre) (omega arith) (c .before .place-in .ensures .0) (c .if1 .taken) in
+    let start = c .before .before .before .before .before .before .before in
+    let probe = c .before .before .before .probe in
+    let right = halved-right (start .args .place) (start .args .kept .now) (probe .result) (start .pre) (omega (arith, probe .ensures)) (c .before .place-in .ensures .0) (c .if1 .taken) in
     (omega arith, omega arith, omega arith)
 
 loop-again-2 : tie.Need-loop-again-2 Inv-loop μ-loop
 loop-again-2 c =
-    let start = c .before .before .before .before .before .before in
-    let o = c .before .before .before .before .loop in
-    let left = halved-left (start .args .place) (start .args .kept .now) (o .low + (o .high - o .low) / 2) (start .pre) (omega arith) (c .before .place-in .ensures .0) (c .if1 .left) in
+    let start = c .before .before .before .before .before .before .before in
+    let probe = c .before .before .before .probe in
+    let left = halved-left (start .args .place) (start .args .kept .now) (probe .result) (start .pre) (omega (arith, probe .ensures)) (c .before .place-in .ensures .0) (c .if1 .left) in
     (omega arith, omega arith, omega arith)
 
 returns : tie.Need-returns Inv-loop μ-loop
@@ -41,10 +41,9 @@ count-before-spec =
     Inv-loop
     μ-loop
     loop-holds
+    (λ c κs. omega arith)
     (λ c. omega arith)
-    (λ c. omega arith)
-    (λ c. omega arith)
-    (λ c. omega arith)
+    (λ c. search needs)
     (λ c κs. search needs)
     (λ c. omega arith)
     (λ c. omega arith)

@@ -12,7 +12,8 @@ use Rattle.story.specs.Flows.{part, flows, flowsIn}
 use Rattle.searches.proofs.Viewed.{flow-laid}
 use Rattle.searches.proofs.Readable.{no-flow, flow-readable}
 use Rattle.items.specs.Bodies.{FlowsKept}
-use Rattle.items.proofs.Kept.{flow-stitches, flow-rest, flows-plain}
+use Rattle.items.proofs.Halves.{from-cut, rest-shorter}
+use Rattle.items.proofs.Kept.{flow-stitches, flow-rest, flows-plain, flows-from}
 use Rattle.symbols.specs.Index.{flowEntries}
 use Rattle.symbols.specs.Placed.{placed}
 use Rattle.symbols.proofs.Stored.{Storing, storing-start, storing-end, storing-many}
@@ -22,16 +23,16 @@ use Rattle.symbols.proofs.entries.put_flows.Statement.{statement}
 use Rattle.symbols.proofs.entries.put_flows.Tie as tie
 
 abbrev Inv-loop : tie.InvT-loop
-Inv-loop file kept from end index₀ n at₀ count₀ index at count =
-    ((at ≤ end) × (length index ≡ length index₀))
-    × ((ends (flows (part at end file)) ≡ well) × FlowsKept file kept at end)
+Inv-loop file kept from end index₀ n at₀ rest₀ count₀ index at rest count =
+    ((at ≤ end) × (length index ≡ length index₀) × (length rest ≤ length kept))
+    × ((ends (flows (part at end file)) ≡ well) × FlowsKept file rest at end)
     × Storing index₀ n (placed (each flowEntries (map flowWithoutPlain (flowsIn from (part from end file))))) index count (placed (each flowEntries (map flowWithoutPlain (flowsIn at (part at end file)))))
 
 abbrev μ-loop : tie.MeasureT-loop
-μ-loop file kept from end index₀ n at₀ count₀ index at count = end - at
+μ-loop file kept from end index₀ n at₀ rest₀ count₀ index at rest count = end - at
 
 loop-holds : tie.Need-loop-holds Inv-loop μ-loop
-loop-holds c = let start = c .before .before .before in ((start .pre .0 .ordered, refl), start .pre .1, storing-start)
+loop-holds c = let start = c .before .before .before in ((start .pre .0 .ordered, refl, omega arith), start .pre .1, storing-start)
 
 flow-view-requires : tie.Need-flow-view-requires Inv-loop μ-loop
 flow-view-requires c κs = (c .loop .inv .0 .0, c .before .before .before .before .pre .0 .within)
@@ -65,13 +66,19 @@ put-flow-requires c κs =
       (l .name, omega (arith, start .pre .0 .within), record { ordered = l .stitches; within = omega (arith, start .pre .0 .within); short = start .pre .0 .short }),
       (
         flow-readable (start .args .file .now) (loop .at) (start .args .end) (loop .inv .1 .0) (flow-view .ensures) (v .given .0 .0) (v .given .1) .own,
-        flow-stitches (start .args .file .now) (start .args .kept .now) (loop .at) (start .args .end) (loop .inv .0 .0) (start .pre .0 .within) (start .pre .0 .short) (loop .inv .1 .0) (loop .inv .1 .1) (v .given .0 .0) (flow-view .ensures) (v .given .1),
+        flow-stitches (start .args .file .now) _ (loop .at) (start .args .end) (loop .inv .0 .0) (start .pre .0 .within) (start .pre .0 .short) (loop .inv .1 .0) (loop .inv .1 .1) (v .given .0 .0) (flow-view .ensures) (v .given .1),
       ),
     )
 
+count-before-requires : tie.Need-count-before-requires Inv-loop μ-loop
+count-before-requires c κs = c .before .before .before .before .before .before .before .before .loop .inv .1 .1 .rising
+
+mul-rest : tie.Need-mul-rest Inv-loop μ-loop
+mul-rest c = omega (arith, c .count-before .ensures, c .before .before .before .before .before .before .before .before .before .loop .inv .0)
+
 loop-less : tie.Need-loop-less Inv-loop μ-loop
 loop-less c =
-    let at-v = c .before .before .before .before .before in
+    let at-v = c .before .before .before .before .before .before .before in
     let at-flow-view = at-v .before .before in
     let at-loop = at-flow-view .before in
     let start = at-loop .before .before .before .before in
@@ -82,7 +89,7 @@ loop-less c =
 
 loop-again : tie.Need-loop-again Inv-loop μ-loop
 loop-again c =
-    let at-put-flow = c .before .before in
+    let at-put-flow = c .before .before .before .before in
     let at-v = at-put-flow .before .before .before in
     let at-flow-view = at-v .before .before in
     let at-loop = at-flow-view .before in
@@ -91,13 +98,13 @@ loop-again c =
     let flow-view = at-flow-view .flow-view in
     let v = at-v .v in
     let l = flow-laid (start .args .file .now) (loop .at) (start .args .end) (v .given .0 .0) (flow-view .ensures) (v .given .1) in (
-      omega (arith, loop .inv .0),
+      (omega (arith, loop .inv .0), omega (arith, loop .inv .0, at-put-flow .put-flow .kept), omega (arith, loop .inv .0, rest-shorter (c .before .count-before .result) (loop .rest .now))),
       (
         flow-readable (start .args .file .now) (loop .at) (start .args .end) (loop .inv .1 .0) (flow-view .ensures) (v .given .0 .0) (v .given .1) .rest,
-        flow-rest (start .args .file .now) (start .args .kept .now) (loop .at) (start .args .end) (loop .inv .0 .0) (start .pre .0 .within) (start .pre .0 .short) (loop .inv .1 .0) (loop .inv .1 .1) (v .given .0 .0) (flow-view .ensures) (v .given .1),
+        flows-from (from-cut _ _ (c .before .count-before .ensures .0)) (flow-rest (start .args .file .now) _ (loop .at) (start .args .end) (loop .inv .0 .0) (start .pre .0 .within) (start .pre .0 .short) (loop .inv .1 .0) (loop .inv .1 .1) (v .given .0 .0) (flow-view .ensures) (v .given .1)),
       ),
       storing-many (loop .inv .2) _
-          (flows-next (flows-plain (start .args .file .now) (start .args .kept .now) (loop .at) (start .args .end) (loop .inv .0 .0) (start .pre .0 .within) (start .pre .0 .short) (loop .inv .1 .0) (loop .inv .1 .1) (v .given .0 .0) (flow-view .ensures) (v .given .1)))
+          (flows-next (flows-plain (start .args .file .now) _ (loop .at) (start .args .end) (loop .inv .0 .0) (start .pre .0 .within) (start .pre .0 .short) (loop .inv .1 .0) (loop .inv .1 .1) (v .given .0 .0) (flow-view .ensures) (v .given .1)))
           (at-put-flow .put-flow .ensures),
     )
 
@@ -114,5 +121,10 @@ put-flows-spec =
     same-length
     returns
     put-flow-requires
+    count-before-requires
+    mul-rest
+    (λ c. search needs)
+    (λ c. search needs)
+    (λ c. search needs)
     loop-less
     loop-again)
