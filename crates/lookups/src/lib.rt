@@ -127,7 +127,7 @@ fn lookup_long(file: &[u8], index: &mut [u32], target: &[u8]) -> LookupAnswer
     lookup_in(file, index, target, &mut items)
 }
 
-// Looks the target up: reads the file, writes the index as a check does, and finds what the target is. The trailer is judged first, so that a file that it refuses waits for no buffer.
+// Looks the target up: reads the file, writes the index as a check does, and finds what the target is. The trailer is judged first: no buffers are made for a file that it refuses.
 pub fn lookup(file: &[u8], index: &mut [u32], target: &[u8]) -> LookupAnswer
     ensures { λ r. ⌜ Looked (now (file .entry)) (now (index .entry)) (now (target .entry)) r (now (index .exit)) ⌝ }
 {

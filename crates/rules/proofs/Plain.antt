@@ -94,13 +94,6 @@ module _ {m : Matching} where
   pub temp-fewer : {a b : List Item} (n : Bytes) → Fewer m a b → tempIn a n ≡ tempIn b n
   temp-fewer n f = any-fewer (λ (w : What). is temp w && same n (w .name)) (λ w e. rw (e .kind)) f
 
-  gathers-fewer : {a b : List Item} → Fewer m a b → SameGathers (whats a) (whats b)
-  gathers-fewer f n = any-fewer (λ (w : What). is gather w && same n (w .name)) (λ w e. rw (e .kind)) f
-
-  -- plain items before change no rule
-  pub broken-fewer : {a b : List Item} (k : Known) (h : Here) → Fewer m a b → (r : Rule) (w : What) → broken k h (whats a) r w ≡ broken k h (whats b) r w
-  broken-fewer {a} {b} k h f r w = broken-after k h (whats a) (whats b) (gathers-fewer f) r w
-
   pub known-fewer : (s t : Story) → FewerStory m s t → known s ≡ known t
   unfolding known
   known-fewer s t h = same-known (known s) (known t)

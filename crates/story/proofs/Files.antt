@@ -1,6 +1,6 @@
 -- What holds of the kept numbers of a file that `readOf` opens. Assumes nothing.
 use mathlib.Core.Path.{_≡_, refl, ap}
-use mathlib.Core.List.{List, map}
+use mathlib.Core.List.{List}
 use Prim.Native.Nat.{ℕ, _+_, _*_, _≤_}
 use lib.ListN.{length}
 use Rattle.names.specs.Words.{Sorted, each}
@@ -13,12 +13,10 @@ use Rattle.story.proofs.StoryItems.{story-items}
 use Rattle.story.proofs.Places.{ItemBefore}
 use Rattle.story.proofs.Readable.{readable}
 use Rattle.story.specs.Results.{keptAt, keptRead}
-use Rattle.story.specs.Plain.{notPlain}
-use Rattle.records.specs.Numbers.{keptOf, itemIn, between}
+use Rattle.records.specs.Numbers.{keptOf, between}
 use Rattle.story.specs.Story.{flowItems, storyItems}
 use Rattle.story.proofs.Weights
 use Rattle.story.proofs.Standing
-use Rattle.story.proofs.Unpacked
 use Rattle.story.proofs.BodyRuns
 
 module _ (file : List ℕ) (c : Sections) (e : readOf file ≡ opened.At c) where
@@ -28,20 +26,13 @@ module _ (file : List ℕ) (c : Sections) (e : readOf file ≡ opened.At c) wher
   good : ends (sectionsRead c file) ≡ well
   good = sections-well file c e
 
-  -- at most (L - 20) / 6 are kept, of at most (L - 20) / 5
+  -- at most (L - 20) / 6 are kept
   pub kept-bound : 6 * length (keptOf (storyItems (storyIn c file))) + 20 ≤ length file
   kept-bound = Weights.kept-few c file in-order good
-
-  pub items-bound : 5 * length (storyItems (storyIn c file)) + 20 ≤ length file
-  items-bound = Weights.items-few c file in-order good
 
   -- places rise across the whole file
   pub places-rise : Sorted ItemBefore (storyItems (storyIn c file))
   places-rise = Standing.story-rises c file in-order good
-
-  -- the kept numbers are, in the file, the items that are not plain
-  pub numbers-back : map (itemIn file) (keptOf (storyItems (storyIn c file))) ≡ notPlain (storyItems (storyIn c file))
-  numbers-back = Unpacked.kept-back c file in-order good
 
   -- the root's are those from its start on and before the flows' start
   pub root-is-run : between (c .root) (c .flows) (keptOf (storyItems (storyIn c file))) ≡ keptOf (storyIn c file .root)

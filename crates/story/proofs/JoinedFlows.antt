@@ -11,7 +11,7 @@ use Rattle.fields.specs.declared.Refusal.the-variants.{Short, Unknown}
 use Rattle.fields.specs.declared.FlagRead.the-variants as flag
 use Rattle.fields.specs.Bytes.{pick, flagOf}
 use Rattle.records.specs.Trace.{well, ends}
-use Rattle.records.specs.Grammar.{Reading, ending, nodes}
+use Rattle.records.specs.Grammar.{Reading, ending}
 use Rattle.story.specs.declared.Heading.{Heading}
 use Rattle.records.specs.Items.{nameIn, itemsIn}
 use Rattle.story.specs.Flows.{titled, stitch, flow, countedIn, part, piecesIn, stitchIn, flowIn, stitches}

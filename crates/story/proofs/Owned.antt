@@ -21,7 +21,7 @@ use Rattle.story.specs.declared.Heading.{Heading}
 use Rattle.records.specs.Items.{Item, nameIn, itemOf, itemsAs, itemsIn}
 use Rattle.story.specs.Story.{Name, Stitch, Flow, Story, ownName}
 use Rattle.story.specs.Headings.{countedReach}
-use Rattle.story.specs.Flows.{names, stitch, flow, flows, namesIn, countedIn, part, piecesAt, piecesN, piecesIn, stitchIn, flowIn, flowsIn, stitches}
+use Rattle.story.specs.Flows.{names, stitch, flow, namesIn, countedIn, part, piecesAt, piecesN, piecesIn, stitchIn, flowIn, flowsIn, stitches}
 use Rattle.story.specs.File.{storyIn}
 use Rattle.story.proofs.Reaches.{counted-fits}
 use Rattle.story.proofs.Unfolding.{titled-in, flow-in}

@@ -16,16 +16,12 @@ use Rattle.records.specs.Trace.{Record, well, ends, met, Ending, refused}
 use Rattle.records.specs.Grammar.{Reading, nodes}
 use Rattle.records.specs.Stands.{Stands}
 use Rattle.records.proofs.Places.{stands-drop, stands-fits, stands-take, Places, nodes-places, met-placed}
-use Rattle.story.specs.declared.Sections.{Sections}
 use Rattle.records.specs.Items.{Kind, plain, temp, divert, tunnel, thread, call, variable, argument, choice, gather, parameter, stitchName, flowStart, code, is, Item, nodeSorts, condSorts, exprSorts, argumentSorts, sortOf, whatOf, itemAs, itemOf, itemsAs, itemsIn}
 use Rattle.story.specs.Flows.{part}
-use Rattle.story.specs.File.{sectionsRead, storyIn, InOrder}
 use Rattle.story.specs.Plain.{notPlain}
 use Rattle.records.specs.Numbers.{bit, markOf, numberOf, keptOf, placeIn, sorts, sortIn, branchIn, labelsIn, payloadBehind, payloadAt, itemIn}
 use Rattle.records.specs.Work.{itemsOf}
-use Rattle.story.specs.Story.{storyItems}
 use Rattle.records.proofs.Marks.{code-small, bit-small}
-use Rattle.story.proofs.Standing.{story-stands}
 
 -- 1. A record's sort is none of the last three
 
@@ -158,14 +154,3 @@ map-back file (i ∷ l) h = by-test (is plain (i .what)) (map-back file l (λ j 
     by-test : (x : Bool) → map (itemIn file) (keptOf l) ≡ notPlain l → map (itemIn file) (pick x (keptOf l) (numberOf i ∷ keptOf l)) ≡ pick x (notPlain l) (i ∷ notPlain l)
     by-test true e = e
     by-test false e = rw (e, h i (List·Memᴰ·head refl))
-
--- those of a readable file
-module _ (c : Sections) (file : List ℕ) (o : InOrder c file) (good : ends (sectionsRead c file) ≡ well) where
-  pub number-back : (i : Item) → List·Memᴰ i (storyItems (storyIn c file)) → itemIn file (numberOf i) ≡ i
-  number-back i m =
-      let x = story-stands c file o good i m in
-      rw (← x .1) (item-back file (x .0) (x .2) (omega (arith, x .3, o .short)))
-
-  -- THE NUMBERS KEPT of a readable file are, in the file, its items that are not plain
-  pub kept-back : map (itemIn file) (keptOf (storyItems (storyIn c file))) ≡ notPlain (storyItems (storyIn c file))
-  kept-back = map-back file (storyItems (storyIn c file)) number-back

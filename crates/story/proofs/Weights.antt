@@ -1,5 +1,5 @@
 -- What records weigh: five bytes of head, and one more where a record is not plain. Records that are read through weigh no more than
--- their bytes, so that a file of L bytes has at most (L - 20) / 5 records, and at most (L - 20) / 6 that are not plain. Assumes nothing.
+-- their bytes, so that a file of L bytes has at most (L - 20) / 6 records that are not plain. Assumes nothing.
 use mathlib.Core.Path.{_≡_, refl, sym, ap, _∙_}
 use mathlib.Core.Bool.{Bool, true, false, _&&_, true≢false}
 use mathlib.Core.List.{List, [], _∷_}
@@ -335,14 +335,11 @@ sections-weigh c s o h =
     (λ y z. omega (arith, o, nodes-weigh (part (c .root) (c .flows) s) y, flows-weigh (part (c .flows) (c .end) s) z, part-length (c .root) (c .flows) s (omega (arith, o)), part-length (c .flows) (c .end) s (omega (arith, o)))) in
     omega (arith, o, most, cost-then g (andThen x behind), cost-then x behind, names-cost (part 0 (c .externals) s), names-cost (part (c .externals) (c .root) s))
 
--- 5. THE BOUND: a readable file of L bytes has at most (L - 20) / 6 records that are not plain, and at most (L - 20) / 5 in all
+-- 5. THE BOUND: a readable file of L bytes has at most (L - 20) / 6 records that are not plain
 
 module _ (c : Sections) (s : List ℕ) (o : InOrder c s) (h : ends (sectionsRead c s) ≡ well) where
-  trace-few : (6 * length (keptOf (itemsOf 0 (sectionsRead c s))) + 20 ≤ length s) × (5 * length (itemsOf 0 (sectionsRead c s)) + 20 ≤ length s)
+  trace-few : 6 * length (keptOf (itemsOf 0 (sectionsRead c s))) + 20 ≤ length s
   trace-few = omega (arith, kept-cost 0 (sectionsRead c s), sections-weigh c s o h)
 
   pub kept-few : 6 * length (keptOf (storyItems (storyIn c s))) + 20 ≤ length s
-  kept-few = rw (← story-items c s h) (trace-few .0)
-
-  pub items-few : 5 * length (storyItems (storyIn c s)) + 20 ≤ length s
-  items-few = rw (← story-items c s h) (trace-few .1)
+  kept-few = rw (← story-items c s h) trace-few

@@ -7,7 +7,7 @@ use lib.ListN.{drop}
 use Rattle.records.specs.Trace.{well, ends}
 use Rattle.story.specs.declared.Sections.{Sections}
 use Rattle.story.specs.declared.Opened.the-variants as opened
-use Rattle.story.specs.Flows.{flow, flows, part, flowIn, flowsIn}
+use Rattle.story.specs.Flows.{flow, part, flowIn, flowsIn}
 use Rattle.story.specs.File.{sectionsRead, readOf, storyIn}
 use Rattle.story.specs.Whole.{IsFlow, Whole}
 use Rattle.story.proofs.Readable.{Readable, readable, flows-pieces}

@@ -237,7 +237,7 @@ fn check_long(file: &[u8], index: &mut [u32], message: &mut [u8]) -> Answer
     )
 }
 
-// THE CHECK of a file. The index wants three numbers for each byte before the trailer, the message buffer 640 bytes. The trailer is judged first, so that a file that it refuses waits for no buffer.
+// THE CHECK of a file. The index wants three numbers for each byte before the trailer, the message buffer 640 bytes. The trailer is judged first: no buffers are made for a file that it refuses.
 pub fn check(file: &[u8], index: &mut [u32], message: &mut [u8]) -> Answer
     ensures { λ r. ⌜ Checked (now (file .entry)) (now (index .entry)) (now (message .entry)) r (now (index .exit)) (now (message .exit)) ⌝ }
 {

@@ -1,5 +1,4 @@
 -- `validator::write_breach` meets its contract: its text is the rule's, with the names at the two places. Assumes nothing.
-use native.Mathlib.Omega.{arith}
 use borrow.Author.Needs.{needs}
 use Rattle.validator.proofs.Texts.{name-fits, told}
 use Rattle.validator.proofs.write_breach.Statement.{statement}
