@@ -25,7 +25,7 @@ use crate::structure::validate_flow_parameter_names;
 use crate::structure::validate_function_purity;
 use crate::structure::validate_stitch_name;
 use filters::declared::put_declared;
-use items::runs::count_before;
+use items::runs::items_from;
 use searches::views::FlowView;
 use searches::views::FlowViewRead;
 use searches::views::StitchView;
@@ -384,8 +384,8 @@ fn validate_flows(
             return found;
         }
         at = v.end;
-        let behind = count_before(rest, at);
-        rest = &rest[behind..];
+        let next = items_from(rest, at);
+        rest = next;
     }
 }
 

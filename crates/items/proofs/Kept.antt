@@ -36,7 +36,7 @@ use Rattle.searches.proofs.Readable.{stitch-readable, GoodFlow, flow-readable}
 use Rattle.items.specs.Bodies.{bodyIn, itemsAt, keptIn, Rising, keptStitch, keptStitches, keptFlow, Kept, BodyKept, StitchesKept, FlowsKept}
 use Rattle.items.specs.Runs.{numbersFrom}
 use Rattle.items.specs.Search.{labelIn}
-use Rattle.items.proofs.Halves.{from-rising, from-run}
+use Rattle.items.proofs.RisingPlaces.{from-rising, from-run}
 use Rattle.items.proofs.Labels.{labels-append, stitches-labels}
 
 -- 1. Numbers kept of items whose places rise
@@ -249,9 +249,12 @@ module _ (file kept : List ℕ) (at end : ℕ) (ordered : at ≤ end) (within : 
 
 -- 6. For what stands from a place on, the numbers from that place on will do
 
+rest-run : (at end : ℕ) (kept : List ℕ) {rest run : List ℕ} → rest ≡ numbersFrom at kept → Rising kept → between at end kept ≡ run → Rising rest × (between at end rest ≡ run)
+rest-run at end kept q h r = rw q (from-rising at kept h, from-run at end kept h ∙ r)
+
 module _ {file kept rest : List ℕ} {at end : ℕ} (q : rest ≡ numbersFrom at kept) where
   pub flows-from : FlowsKept file kept at end → FlowsKept file rest at end
-  flows-from k = rw q (record { rising = from-rising at kept (k .rising); run = from-run at end kept (k .rising) ∙ k .run })
+  flows-from k = let r = rest-run at end kept q (k .rising) (k .run) in record { rising = r .0; run = r .1 }
 
   pub stitches-from : StitchesKept file kept at end → StitchesKept file rest at end
-  stitches-from k = rw q (record { rising = from-rising at kept (k .rising); run = from-run at end kept (k .rising) ∙ k .run })
+  stitches-from k = let r = rest-run at end kept q (k .rising) (k .run) in record { rising = r .0; run = r .1 }

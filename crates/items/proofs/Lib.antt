@@ -4,7 +4,7 @@ pub mod Sorts
 pub mod Endings
 pub mod Numbered
 pub mod Searching
-pub mod Halves
+pub mod RisingPlaces
 pub mod Labels
 pub mod Kept
 pub mod Filled

@@ -19,7 +19,7 @@ use crate::Places;
 use items::items::is_labelled;
 use items::items::named_at;
 use items::runs::body_items;
-use items::runs::count_before;
+use items::runs::items_from;
 use names::name_at;
 use searches::views::FlowView;
 use searches::views::FlowViewRead;
@@ -181,8 +181,8 @@ fn put_stitches(
         };
         count = put_stitch(file, rest, v, flow, index, count);
         at = v.end;
-        let behind = count_before(rest, at);
-        rest = &rest[behind..];
+        let next = items_from(rest, at);
+        rest = next;
     }
 }
 
@@ -244,8 +244,8 @@ fn put_flows(
         };
         count = put_flow(file, rest, v, index, count);
         at = v.end;
-        let behind = count_before(rest, at);
-        rest = &rest[behind..];
+        let next = items_from(rest, at);
+        rest = next;
     }
 }
 

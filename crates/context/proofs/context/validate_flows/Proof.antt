@@ -1,13 +1,12 @@
 -- `validate_flows`. The loop's invariant: nothing is found before the flows from the place on, which can be read and are kept. Assumes nothing.
 use mathlib.Core.Path.{_≡_, refl, _∙_}
-use Prim.Native.Nat.{_-_, _≤_}
+use Prim.Native.Nat.{_-_}
 use native.Mathlib.Omega.{arith}
 use lib.ListN.{length, length-take}
 use Rattle.names.specs.Words.{each}
 use Rattle.story.specs.Plain.{withoutPlain}
 use Rattle.story.specs.File.{storyIn}
 use Rattle.items.specs.Bodies.{keptStory}
-use Rattle.items.proofs.Halves.{from-cut, rest-shorter}
 use Rattle.rules.specs.Steps.{flowRuns}
 use Rattle.context.specs.Found.{foundRuns}
 use Rattle.context.specs.Scopes.{keptFlows, FlowsReady}
@@ -18,14 +17,14 @@ use Rattle.context.proofs.context.validate_flows.Statement.{statement}
 use Rattle.context.proofs.context.validate_flows.Tie as tie
 
 abbrev Inv-loop : tie.InvT-loop
-Inv-loop file c kept index count functions hints declared₀ gathers₀ end at₀ rest₀ declared gathers at rest = ((length declared ≡ length declared₀) × (length gathers ≡ length gathers₀) × (length rest ≤ length kept)) × FlowsReady file rest at (c .end) × (foundRuns (keptStory c file) (each flowRuns (keptStory c file .flows)) ≡ foundRuns (keptStory c file) (each flowRuns (keptFlows file at (c .end))))
+Inv-loop file c kept index count functions hints declared₀ gathers₀ end at₀ rest₀ declared gathers at rest = ((length declared ≡ length declared₀) × (length gathers ≡ length gathers₀)) × FlowsReady file rest at (c .end) × (foundRuns (keptStory c file) (each flowRuns (keptStory c file .flows)) ≡ foundRuns (keptStory c file) (each flowRuns (keptFlows file at (c .end))))
 
 abbrev μ-loop : tie.MeasureT-loop
 μ-loop file c kept index count functions hints declared₀ gathers₀ end at₀ rest₀ declared gathers at rest = c .end - at
 
 loop-holds : tie.Need-loop-holds Inv-loop μ-loop
 unfolding withoutPlain storyIn
-loop-holds c = ((refl, refl, omega arith), c .before .before .before .before .before .before .before .pre .1, refl)
+loop-holds c = ((refl, refl), c .before .before .before .before .before .before .before .pre .1, refl)
 
 flow-view-requires : tie.Need-flow-view-requires Inv-loop μ-loop
 flow-view-requires c κs = (c .loop .inv .1 .ordered, c .loop .inv .1 .within)
@@ -74,36 +73,34 @@ returns-2 c =
     let first = flows-first _ _ _ _ (inv .1) (view .flow-view .ensures) _ (seen .v .given .1) in
     rw (inv .2) (each-found _ _ first (c .before .before .before .before .before .before .validate-whole-flow .ensures) (c .enum-told2 .given .1))
 
-count-before-requires : tie.Need-count-before-requires Inv-loop μ-loop
-count-before-requires c κs = c .before .before .before .before .before .before .before .before .before .before .before .before .before .before .loop .inv .1 .own .rising
-
-mul-rest : tie.Need-mul-rest Inv-loop μ-loop
-mul-rest c =
-    let at-loop = c .before .before .before .before .before .before .before .before .before .before .before .before .before .before .before in
-    omega (arith, c .count-before .ensures, at-loop .loop .inv .0, at-loop .before .before .before .before .before .before .before .before .fits)
+items-from-requires : tie.Need-items-from-requires Inv-loop μ-loop
+items-from-requires c κs =
+    let ran = c .before .before .before .before .before .before in
+    let seen = ran .before .before .before .before .before in
+    let at-loop = seen .before .before .before in
+    at-loop .loop .inv .1 .own .rising
 
 loop-less : tie.Need-loop-less Inv-loop μ-loop
 loop-less c =
-    let seen = c .before .before .before .before .before .before .before .before .before .before .before .before .before in
+    let ran = c .before .before .before .before .before .before .before in
+    let seen = ran .before .before .before .before .before in
     let view = seen .before .before in
     flows-fewer _ _ _ _ (view .before .loop .inv .1) (view .flow-view .ensures) _ (seen .v .given .1)
 
 loop-again : tie.Need-loop-again Inv-loop μ-loop
 loop-again c =
-    let back = c .before .before .before .before .before .before .before in
+    let back = c .before .before .before .before .before .before in
     let ran = back .before in
     let seen = ran .before .before .before .before .before in
     let view = seen .before .before in
-    let loop = view .before .loop in
-    let inv = loop .inv in
+    let inv = view .before .loop .inv in
     let told = view .flow-view .ensures in
     let there = seen .v .given .1 in
     let first = flows-first _ _ _ _ (inv .1) told _ there in
-    let behind = c .before .count-before in
     let same = ran .validate-whole-flow .kept .1 .1 .1 .1 .1 .1 .1 .1 in (
-      (omega (arith, inv .0, same .0, back .declared .given), omega (arith, inv .0, same .1 .0), omega (arith, inv .0, rest-shorter (behind .result) (loop .rest .now))),
-      flows-ready-from (from-cut _ _ (behind .ensures .0)) (flows-after _ _ _ _ (inv .1) told _ there),
-      inv .2 ∙ each-passed _ _ first (ran .validate-whole-flow .ensures) (c .before .before .enum-told3 .given .1),
+      (omega (arith, inv .0, same .0, back .declared .given), omega (arith, inv .0, same .1 .0)),
+      flows-ready-from (c .items-from .ensures) (flows-after _ _ _ _ (inv .1) told _ there),
+      inv .2 ∙ each-passed _ _ first (ran .validate-whole-flow .ensures) (c .before .enum-told3 .given .1),
     )
 
 pub validate-flows-spec : {M : Type 1} → statement M
@@ -128,10 +125,6 @@ validate-flows-spec =
     same-length-4
     returns-2
     (λ c. search needs)
-    count-before-requires
-    mul-rest
-    (λ c. search needs)
-    (λ c. search needs)
-    (λ c. search needs)
+    items-from-requires
     loop-less
     loop-again)

@@ -4,7 +4,7 @@ use native.Mathlib.Omega.{arith}
 use borrow.Author.Needs.{needs}
 use lib.ListN.{length}
 use Rattle.items.specs.Runs.{numberBefore}
-use Rattle.items.proofs.Halves.{number-fits, halved-right, halved-left}
+use Rattle.items.proofs.RisingPlaces.{number-fits, reach-beyond, reach-upto}
 use Rattle.items.proofs.runs.count_before.Statement.{statement}
 use Rattle.items.proofs.runs.count_before.Tie as tie
 
@@ -21,14 +21,14 @@ loop-again : tie.Need-loop-again Inv-loop μ-loop
 loop-again c =
     let start = c .before .before .before .before .before .before .before in
     let probe = c .before .before .before .probe in
-    let right = halved-right (start .args .place) (start .args .kept .now) (probe .result) (start .pre) (omega (arith, probe .ensures)) (c .before .place-in .ensures .0) (c .if1 .taken) in
+    let beyond = reach-beyond (start .args .place) (start .args .kept .now) (probe .result) (start .pre) (omega (arith, probe .ensures)) (c .before .place-in .ensures .0) (c .if1 .taken) in
     (omega arith, omega arith, omega arith)
 
 loop-again-2 : tie.Need-loop-again-2 Inv-loop μ-loop
 loop-again-2 c =
     let start = c .before .before .before .before .before .before .before in
     let probe = c .before .before .before .probe in
-    let left = halved-left (start .args .place) (start .args .kept .now) (probe .result) (start .pre) (omega (arith, probe .ensures)) (c .before .place-in .ensures .0) (c .if1 .left) in
+    let upto = reach-upto (start .args .place) (start .args .kept .now) (probe .result) (start .pre) (omega (arith, probe .ensures)) (c .before .place-in .ensures .0) (c .if1 .left) in
     (omega arith, omega arith, omega arith)
 
 returns : tie.Need-returns Inv-loop μ-loop

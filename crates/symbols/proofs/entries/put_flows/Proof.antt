@@ -12,7 +12,6 @@ use Rattle.story.specs.Flows.{part, flows, flowsIn}
 use Rattle.searches.proofs.Viewed.{flow-laid}
 use Rattle.searches.proofs.Readable.{no-flow, flow-readable}
 use Rattle.items.specs.Bodies.{FlowsKept}
-use Rattle.items.proofs.Halves.{from-cut, rest-shorter}
 use Rattle.items.proofs.Kept.{flow-stitches, flow-rest, flows-plain, flows-from}
 use Rattle.symbols.specs.Index.{flowEntries}
 use Rattle.symbols.specs.Placed.{placed}
@@ -24,7 +23,7 @@ use Rattle.symbols.proofs.entries.put_flows.Tie as tie
 
 abbrev Inv-loop : tie.InvT-loop
 Inv-loop file kept from end index₀ n at₀ rest₀ count₀ index at rest count =
-    ((at ≤ end) × (length index ≡ length index₀) × (length rest ≤ length kept))
+    ((at ≤ end) × (length index ≡ length index₀))
     × ((ends (flows (part at end file)) ≡ well) × FlowsKept file rest at end)
     × Storing index₀ n (placed (each flowEntries (map flowWithoutPlain (flowsIn from (part from end file))))) index count (placed (each flowEntries (map flowWithoutPlain (flowsIn at (part at end file)))))
 
@@ -32,7 +31,7 @@ abbrev μ-loop : tie.MeasureT-loop
 μ-loop file kept from end index₀ n at₀ rest₀ count₀ index at rest count = end - at
 
 loop-holds : tie.Need-loop-holds Inv-loop μ-loop
-loop-holds c = let start = c .before .before .before in ((start .pre .0 .ordered, refl, omega arith), start .pre .1, storing-start)
+loop-holds c = let start = c .before .before .before in ((start .pre .0 .ordered, refl), start .pre .1, storing-start)
 
 flow-view-requires : tie.Need-flow-view-requires Inv-loop μ-loop
 flow-view-requires c κs = (c .loop .inv .0 .0, c .before .before .before .before .pre .0 .within)
@@ -70,15 +69,16 @@ put-flow-requires c κs =
       ),
     )
 
-count-before-requires : tie.Need-count-before-requires Inv-loop μ-loop
-count-before-requires c κs = c .before .before .before .before .before .before .before .before .loop .inv .1 .1 .rising
-
-mul-rest : tie.Need-mul-rest Inv-loop μ-loop
-mul-rest c = omega (arith, c .count-before .ensures, c .before .before .before .before .before .before .before .before .before .loop .inv .0)
+items-from-requires : tie.Need-items-from-requires Inv-loop μ-loop
+items-from-requires c κs =
+    let at-put-flow = c .before .before in
+    let at-v = at-put-flow .before .before .before in
+    let at-loop = at-v .before .before .before in
+    at-loop .loop .inv .1 .1 .rising
 
 loop-less : tie.Need-loop-less Inv-loop μ-loop
 loop-less c =
-    let at-v = c .before .before .before .before .before .before .before in
+    let at-v = c .before .before .before .before .before .before in
     let at-flow-view = at-v .before .before in
     let at-loop = at-flow-view .before in
     let start = at-loop .before .before .before .before in
@@ -89,7 +89,7 @@ loop-less c =
 
 loop-again : tie.Need-loop-again Inv-loop μ-loop
 loop-again c =
-    let at-put-flow = c .before .before .before .before in
+    let at-put-flow = c .before .before .before in
     let at-v = at-put-flow .before .before .before in
     let at-flow-view = at-v .before .before in
     let at-loop = at-flow-view .before in
@@ -98,10 +98,10 @@ loop-again c =
     let flow-view = at-flow-view .flow-view in
     let v = at-v .v in
     let l = flow-laid (start .args .file .now) (loop .at) (start .args .end) (v .given .0 .0) (flow-view .ensures) (v .given .1) in (
-      (omega (arith, loop .inv .0), omega (arith, loop .inv .0, at-put-flow .put-flow .kept), omega (arith, loop .inv .0, rest-shorter (c .before .count-before .result) (loop .rest .now))),
+      omega (arith, loop .inv .0, at-put-flow .put-flow .kept),
       (
         flow-readable (start .args .file .now) (loop .at) (start .args .end) (loop .inv .1 .0) (flow-view .ensures) (v .given .0 .0) (v .given .1) .rest,
-        flows-from (from-cut _ _ (c .before .count-before .ensures .0)) (flow-rest (start .args .file .now) _ (loop .at) (start .args .end) (loop .inv .0 .0) (start .pre .0 .within) (start .pre .0 .short) (loop .inv .1 .0) (loop .inv .1 .1) (v .given .0 .0) (flow-view .ensures) (v .given .1)),
+        flows-from (c .items-from .ensures) (flow-rest (start .args .file .now) _ (loop .at) (start .args .end) (loop .inv .0 .0) (start .pre .0 .within) (start .pre .0 .short) (loop .inv .1 .0) (loop .inv .1 .1) (v .given .0 .0) (flow-view .ensures) (v .given .1)),
       ),
       storing-many (loop .inv .2) _
           (flows-next (flows-plain (start .args .file .now) _ (loop .at) (start .args .end) (loop .inv .0 .0) (start .pre .0 .within) (start .pre .0 .short) (loop .inv .1 .0) (loop .inv .1 .1) (v .given .0 .0) (flow-view .ensures) (v .given .1)))
@@ -121,10 +121,6 @@ put-flows-spec =
     same-length
     returns
     put-flow-requires
-    count-before-requires
-    mul-rest
-    (λ c. search needs)
-    (λ c. search needs)
-    (λ c. search needs)
+    items-from-requires
     loop-less
     loop-again)

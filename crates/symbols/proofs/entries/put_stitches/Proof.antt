@@ -13,7 +13,6 @@ use Rattle.story.specs.Flows.{part, stitches}
 use Rattle.searches.proofs.Viewed.{stitch-laid}
 use Rattle.searches.proofs.Readable.{no-stitch, stitch-readable}
 use Rattle.items.specs.Bodies.{keptStitches, StitchesKept}
-use Rattle.items.proofs.Halves.{from-cut, rest-shorter}
 use Rattle.items.proofs.Kept.{stitch-rest, stitches-plain, stitches-from}
 use Rattle.symbols.specs.Placed.{stitchPlaced}
 use Rattle.symbols.proofs.Stored.{Storing, storing-start, storing-end, storing-many}
@@ -23,7 +22,7 @@ use Rattle.symbols.proofs.entries.put_stitches.Tie as tie
 
 abbrev Inv-loop : tie.InvT-loop
 Inv-loop file kept from end flow index₀ n at₀ rest₀ count₀ index at rest count =
-    ((at ≤ end) × (length index ≡ length index₀) × (length rest ≤ length kept))
+    ((at ≤ end) × (length index ≡ length index₀))
     × ((ends (stitches (part at end file)) ≡ well) × StitchesKept file rest at end)
     × Storing index₀ n (each (stitchPlaced flow) (keptStitches file from end)) index count (each (stitchPlaced flow) (keptStitches file at end))
 
@@ -31,7 +30,7 @@ abbrev μ-loop : tie.MeasureT-loop
 μ-loop file kept from end flow index₀ n at₀ rest₀ count₀ index at rest count = end - at
 
 loop-holds : tie.Need-loop-holds Inv-loop μ-loop
-loop-holds c = let start = c .before .before .before in ((start .pre .0 .ordered, refl, omega arith), start .pre .1, storing-start)
+loop-holds c = let start = c .before .before .before in ((start .pre .0 .ordered, refl), start .pre .1, storing-start)
 
 stitch-view-requires : tie.Need-stitch-view-requires Inv-loop μ-loop
 stitch-view-requires c κs = (c .loop .inv .0 .0, c .before .before .before .before .pre .0 .within)
@@ -63,15 +62,16 @@ put-stitch-requires c κs =
     let v = at-v .v in
     let l = stitch-laid (start .args .file .now) (loop .at) (start .args .end) (v .given .0 .0) (stitch-view .ensures) (v .given .1) in ((l .name, omega (arith, start .pre .0 .within), start .pre .0 .short), loop .inv .1 .1 .rising)
 
-count-before-requires : tie.Need-count-before-requires Inv-loop μ-loop
-count-before-requires c κs = c .before .before .before .before .before .before .before .before .loop .inv .1 .1 .rising
-
-mul-rest : tie.Need-mul-rest Inv-loop μ-loop
-mul-rest c = omega (arith, c .count-before .ensures, c .before .before .before .before .before .before .before .before .before .loop .inv .0)
+items-from-requires : tie.Need-items-from-requires Inv-loop μ-loop
+items-from-requires c κs =
+    let at-put-stitch = c .before .before in
+    let at-v = at-put-stitch .before .before .before in
+    let at-loop = at-v .before .before .before in
+    at-loop .loop .inv .1 .1 .rising
 
 loop-less : tie.Need-loop-less Inv-loop μ-loop
 loop-less c =
-    let at-v = c .before .before .before .before .before .before .before in
+    let at-v = c .before .before .before .before .before .before in
     let at-stitch-view = at-v .before .before in
     let at-loop = at-stitch-view .before in
     let start = at-loop .before .before .before .before in
@@ -82,7 +82,7 @@ loop-less c =
 
 loop-again : tie.Need-loop-again Inv-loop μ-loop
 loop-again c =
-    let at-put-stitch = c .before .before .before .before in
+    let at-put-stitch = c .before .before .before in
     let at-v = at-put-stitch .before .before .before in
     let at-stitch-view = at-v .before .before in
     let at-loop = at-stitch-view .before in
@@ -91,10 +91,10 @@ loop-again c =
     let stitch-view = at-stitch-view .stitch-view in
     let v = at-v .v in
     let l = stitch-laid (start .args .file .now) (loop .at) (start .args .end) (v .given .0 .0) (stitch-view .ensures) (v .given .1) in (
-      (omega (arith, loop .inv .0), omega (arith, loop .inv .0, at-put-stitch .put-stitch .kept), omega (arith, loop .inv .0, rest-shorter (c .before .count-before .result) (loop .rest .now))),
+      omega (arith, loop .inv .0, at-put-stitch .put-stitch .kept),
       (
         stitch-readable (start .args .file .now) (loop .at) (start .args .end) (loop .inv .1 .0) (stitch-view .ensures) (v .given .0 .0) (v .given .1) .rest,
-        stitches-from (from-cut _ _ (c .before .count-before .ensures .0)) (stitch-rest (start .args .file .now) _ (loop .at) (start .args .end) (loop .inv .0 .0) (start .pre .0 .within) (start .pre .0 .short) (loop .inv .1 .0) (loop .inv .1 .1) (v .given .0 .0) (stitch-view .ensures) (v .given .1)),
+        stitches-from (c .items-from .ensures) (stitch-rest (start .args .file .now) _ (loop .at) (start .args .end) (loop .inv .0 .0) (start .pre .0 .within) (start .pre .0 .short) (loop .inv .1 .0) (loop .inv .1 .1) (v .given .0 .0) (stitch-view .ensures) (v .given .1)),
       ),
       storing-many (loop .inv .2) _
           (ap (each (stitchPlaced (start .args .flow))) (stitches-plain (start .args .file .now) _ (loop .at) (start .args .end) (loop .inv .0 .0) (start .pre .0 .within) (start .pre .0 .short) (loop .inv .1 .0) (loop .inv .1 .1) (v .given .0 .0) (stitch-view .ensures) (v .given .1)))
@@ -114,10 +114,6 @@ put-stitches-spec =
     same-length
     returns
     put-stitch-requires
-    count-before-requires
-    mul-rest
-    (λ c. search needs)
-    (λ c. search needs)
-    (λ c. search needs)
+    items-from-requires
     loop-less
     loop-again)

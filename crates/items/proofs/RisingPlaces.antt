@@ -1,4 +1,4 @@
--- Where places rise, the numbers with places before another stand first: so a search by halves counts them, and a run of places is cut out. Assumes nothing.
+-- Where places rise, the numbers with places before another stand first: so the place in one slot says whether they reach beyond it, and a run of places is cut out. Assumes nothing.
 use mathlib.Core.Path.{_≡_, refl, sym, _∙_}
 use mathlib.Core.Bool.{Bool, true, false, not, _&&_}
 use mathlib.Core.List.{List, [], _∷_, List·Memᴰ, List·Memᴰ·head, List·Memᴰ·tail, List·Memᴰ·cases-cons, List·Memᴰ·not-nil}
@@ -18,7 +18,7 @@ use Rattle.items.specs.Runs.{numberBefore, numbersFrom}
 
 module _ (p : ℕ) where
   -- all the places are from p on
-  abbrev pub Onward : List ℕ → Type 0
+  abbrev Onward : List ℕ → Type 0
   Onward xs = (y : ℕ) → List·Memᴰ y xs → p ≤ placeIn y
 
   pub number-fits : (xs : List ℕ) → numberBefore p xs ≤ length xs
@@ -30,7 +30,7 @@ module _ (p : ℕ) where
       by-test true h = omega arith
       by-test false h = omega arith
 
-  pub number-none : (xs : List ℕ) → Onward xs → numberBefore p xs ≡ 0
+  number-none : (xs : List ℕ) → Onward xs → numberBefore p xs ≡ 0
   unfolding numberBefore
   number-none [] h = refl
   number-none (x ∷ xs) h = rw (le-ltb (placeIn x) p (h x (List·Memᴰ·head refl))) (number-none xs (λ y m. h y (List·Memᴰ·tail m)))
@@ -67,12 +67,12 @@ module _ (p : ℕ) where
       by-test true r = omega arith
       by-test false r = omega arith
 
--- by the place of the middle one, the count is right of it or is not
-pub halved-right : (p : ℕ) (xs : List ℕ) (i : ℕ) {x : ℕ} → Rising xs → i < length xs → x ≡ placeIn (getD xs i 0) → x < p → i < numberBefore p xs
-halved-right p xs i h q e less = slot-before p xs h i q (omega (arith, e))
+-- by the place in a slot, as the code reads it, they reach beyond the slot or do not
+pub reach-beyond : (p : ℕ) (xs : List ℕ) (i : ℕ) {x : ℕ} → Rising xs → i < length xs → x ≡ placeIn (getD xs i 0) → x < p → i < numberBefore p xs
+reach-beyond p xs i h q e less = slot-before p xs h i q (omega (arith, e))
 
-pub halved-left : (p : ℕ) (xs : List ℕ) (i : ℕ) {x : ℕ} → Rising xs → i < length xs → x ≡ placeIn (getD xs i 0) → p ≤ x → numberBefore p xs ≤ i
-halved-left p xs i h q e more = slot-onward p xs h i q (omega (arith, e))
+pub reach-upto : (p : ℕ) (xs : List ℕ) (i : ℕ) {x : ℕ} → Rising xs → i < length xs → x ≡ placeIn (getD xs i 0) → p ≤ x → numberBefore p xs ≤ i
+reach-upto p xs i h q e more = slot-onward p xs h i q (omega (arith, e))
 
 -- 2. A run of places
 
@@ -87,7 +87,7 @@ module _ (from to : ℕ) where
       by-test true e r = rw r
       by-test false e r = let none = number-none to xs (onward-after to x xs h (ltb-false (placeIn x) to e)) in rw none (rw none at r)
 
-  rising-run : (xs : List ℕ) → Rising xs → take (numberBefore to (drop (numberBefore from xs) xs)) (drop (numberBefore from xs) xs) ≡ between from to xs
+  rising-run : (xs : List ℕ) → Rising xs → take (numberBefore to (numbersFrom from xs)) (numbersFrom from xs) ≡ between from to xs
   unfolding numberBefore between
   rising-run [] h = refl
   rising-run (x ∷ xs) h = by-test (ltb (placeIn x) from) refl (rising-run xs (h .1))
@@ -95,7 +95,7 @@ module _ (from to : ℕ) where
       run : List ℕ → List ℕ
       run ys = take (numberBefore to ys) ys
 
-      by-test : (b : Bool) → ltb (placeIn x) from ≡ b → run (drop (numberBefore from xs) xs) ≡ between from to xs
+      by-test : (b : Bool) → ltb (placeIn x) from ≡ b → run (numbersFrom from xs) ≡ between from to xs
           → run (drop (pick b (suc (numberBefore from xs)) (numberBefore from xs)) (x ∷ xs)) ≡ pick (not b && ltb (placeIn x) to) (x ∷ between from to xs) (between from to xs)
       by-test true e r = r
       by-test false e r =
@@ -138,9 +138,6 @@ rest-all n xs = take-all (length xs - n) (drop n xs) (omega (arith, length-drop 
 
 pub from-cut : (p : ℕ) (xs : List ℕ) {n : ℕ} → n ≡ numberBefore p xs → take (length xs - n) (drop n xs) ≡ numbersFrom p xs
 from-cut p xs {n} q = rw (rest-all n xs, q)
-
-pub rest-shorter : (n : ℕ) (xs : List ℕ) → length (take (length xs - n) (drop n xs)) ≤ length xs
-rest-shorter n xs = omega (arith, length-take (length xs - n) (drop n xs))
 
 pub cut-length : (to : ℕ) (ys : List ℕ) {m : ℕ} → m ≡ numberBefore to ys → m ≡ length (take m ys)
 cut-length to ys {m} q = omega (arith, q, number-fits to ys, length-take m ys)
