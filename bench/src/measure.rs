@@ -3,11 +3,14 @@
 use crate::sample::Sample;
 use crate::tasks::{Subject, Task};
 use caller::clock::thread_time;
-use caller::repeat::{repetitions, time};
+use caller::repeat::{repetitions, time, time_again};
 use std::time::Duration;
 
 /// A task whose first run takes longer is not run again.
 pub const ONCE: Duration = Duration::from_secs(20);
+
+/// A task whose first run takes no longer is run once before each of its measurements.
+pub const AGAIN: Duration = Duration::from_millis(100);
 
 /// The time for all rounds of a cell, as far as the rounds allow.
 const BUDGET: Duration = Duration::from_secs(2);
@@ -60,7 +63,10 @@ struct Timing<'s> {
 impl Timing<'_> {
     /// One measurement, and how long it took in all.
     fn measure(&mut self) -> Duration {
-        let once = time(self.repetitions, || self.task.run());
+        let once = match self.first <= AGAIN {
+            true => time_again(self.repetitions, || self.task.run()),
+            false => time(self.repetitions, || self.task.run()),
+        };
         self.times.push(once);
         once * self.repetitions
     }

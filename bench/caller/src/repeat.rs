@@ -22,6 +22,12 @@ pub fn time(repetitions: u32, mut run: impl FnMut()) -> Duration {
     (thread_time() - start) / repetitions
 }
 
+/// The same after a run that is not timed, so that what other work left in the caches does not count.
+pub fn time_again(repetitions: u32, mut run: impl FnMut()) -> Duration {
+    run();
+    time(repetitions, run)
+}
+
 /// How many runs of so long each last long enough to be measured.
 pub fn repetitions(once: Duration) -> u32 {
     let once = once.max(Duration::from_nanos(20));
@@ -54,6 +60,19 @@ mod tests {
     fn short_work_is_repeated_and_long_work_is_not() {
         let times = [1, 999, 400_000, 1_000_000, 3_000_000].map(Duration::from_nanos);
         assert_eq!(times.map(repetitions), [50_000, 1002, 3, 1, 1]);
+    }
+
+    #[test]
+    fn the_run_before_the_timed_ones_does_not_count() {
+        let slow = Duration::from_millis(20);
+        let mut runs = 0;
+        let time = time_again(4, || {
+            runs += 1;
+            let start = thread_time();
+            while runs == 1 && thread_time() - start < slow {}
+        });
+        assert_eq!(runs, 5);
+        assert!(time < slow / 4, "{time:?}");
     }
 
     #[test]
