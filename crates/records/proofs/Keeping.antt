@@ -1,5 +1,5 @@
 -- What a walk keeps: it counts the records that it meets and those that are not plain, and writes the numbers of these. Assumes nothing.
-use mathlib.Core.Path.{_≡_, refl, ap, _∙_}
+use mathlib.Core.Path.{_≡_, refl, ap, subst, _∙_}
 use mathlib.Core.Bool.{Bool, true, false}
 use mathlib.Core.List.{List, [], _∷_}
 use Prim.Native.Nat.{ℕ, zero, suc, _+_, _%_, _^_, _≤_, _<_}
@@ -14,7 +14,7 @@ use Rattle.records.specs.Items.{plain, is, Item, itemOf}
 use Rattle.records.specs.declared.Walk.{Walk}
 use Rattle.records.specs.Numbers.{numberOf, keptOf}
 use Rattle.records.specs.Buffers.{fill}
-use Rattle.records.specs.Work.{Ran, ended, broke, St, st, run, counts, keep, keeping, walkOf, ranOut, Told, walked, itemsOf, Walked}
+use Rattle.records.specs.Work.{Ran, ended, broke, St, st, run, counts, keep, keeping, walkOf, Written, Told, walked, itemsOf, Walked}
 
 -- 1. Numbers in a buffer from slot k on
 
@@ -99,16 +99,24 @@ module _ (b : ℕ) where
           let e : k + suc (length rest) ≡ suc k + length rest = omega arith in
           rw (fill-next k (numberOf item) rest out, e) h
 
--- 4. What a walk answers and writes, after k records kept and m met
+-- 4. What stands in a buffer after it
+
+pub fill-length : (k : ℕ) (xs out : List ℕ) → length (fill k xs out) ≡ length out
+fill-length k [] out = ap length (fill-none k out)
+fill-length k (x ∷ xs) out = ap length (fill-next k x xs out) ∙ fill-length (suc k) xs (set out k x) ∙ length-set out k x
+
+-- 5. What a walk answers and writes, after k records kept and m met
 
 pub walked-all : (t : Trace) (base k m : ℕ) {w : Walk} {before after : List ℕ} → k + length (itemsOf base t) < 4294967296 → m + length (itemsOf base t) < 4294967296
     → Told (run keeping base (st before (counts k m)) t) w after → Walked t base k m before w after
-unfolding ran walkOf ranOut walked
-walked-all t base k m {before = before} p q h =
+unfolding ran walkOf Written walked
+walked-all t base k m {before = before} {after = after} p q h =
     let e = walks base t before k m p q in
+    let there = subst (λ (x : Ran St). Written x after) e (h .written) in
     record {
       answer = h .answer ∙ ap walkOf e ∙ by-answer (ends t);
-      written = h .written ∙ ap ranOut e ∙ by-written (ends t);
+      written = by-written (ends t) there;
+      same-length = by-length (ends t) there ∙ fill-length k kept before;
     }
   where
     kept : List ℕ
@@ -121,15 +129,13 @@ walked-all t base k m {before = before} p q h =
     by-answer well = refl
     by-answer (refused r) = refl
 
-    by-written : (x : Ending) → ranOut (ran x (st (fill k kept before) last)) ≡ fill k kept before
-    by-written well = refl
-    by-written (refused r) = refl
+    by-written : (x : Ending) → Written (ran x (st (fill k kept before) last)) after → x ≡ well → after ≡ fill k kept before
+    by-written well g e = g
+    by-written (refused r) g e = let z : _≡_ {A = ℕ} 0 1 = cc in absurd (omega arith)
 
--- 5. What stands in a buffer after it
-
-pub fill-length : (k : ℕ) (xs out : List ℕ) → length (fill k xs out) ≡ length out
-fill-length k [] out = ap length (fill-none k out)
-fill-length k (x ∷ xs) out = ap length (fill-next k x xs out) ∙ fill-length (suc k) xs (set out k x) ∙ length-set out k x
+    by-length : (x : Ending) → Written (ran x (st (fill k kept before) last)) after → length after ≡ length (fill k kept before)
+    by-length well g = ap length g
+    by-length (refused r) g = g
 
 -- 6. No more are kept than there are
 

@@ -28,34 +28,34 @@ use Rattle.records.specs.declared.Walk.{Walk}
 use Rattle.records.specs.declared.Walk.the-variants as walk
 use Rattle.records.specs.Trace.{Trace, done, refuse, andThen, shift}
 use Rattle.records.specs.Grammar.{Reading, Reader, frontAt, front, nothing, ending, records, repeat, pieceAt, piece, namedAt, named, flaggedAt, flagged, moded, bodyOf, whole, tooDeep, recordOf}
-use Rattle.records.specs.Work.{St, st, Ran, ended, broke, Visitor, bind, run, walkOf, ranOut, Told, endOf}
+use Rattle.records.specs.Work.{St, st, Ran, ended, broke, Visitor, bind, run, walkOf, Written, Told, endOf}
 use Rattle.records.proofs.Traces.{then-done, shift-done, run-then, run-shift}
 use Rattle.records.proofs.Readings.{repeat-none, repeat-step, piece-local}
 
 -- 1. What an answer and what was written say. `x` is the run of a part, and `k` what follows it.
 
 told-ended : (x : Ran St) {w : Walk} {o : List ℕ} {m : ℕ} → Told x w o → w ≡ walk.Done m → x ≡ ended (st o m)
-unfolding walkOf ranOut
+unfolding walkOf Written
 told-ended x {w} {o} {m} h e = by-end x (h .answer) (h .written)
   where
-    by-end : (y : Ran St) → w ≡ walkOf y → o ≡ ranOut y → y ≡ ended (st o m)
+    by-end : (y : Ran St) → w ≡ walkOf y → Written y o → y ≡ ended (st o m)
     by-end (ended s) p q = let z : s .n ≡ m = cc in ap ended (λ i. record { out = sym q i; n = z i })
     by-end (broke s r) p q = let z : _≡_ {A = ℕ} 0 1 = cc in absurd (omega arith)
 
 bind-else : (x : Ran St) (k : St → Ran St) {w : Walk} {o : List ℕ} → Told x w o → {y : Refusal} → w ≡ walk.Refused y → Told (bind x k) w o
-unfolding bind walkOf ranOut
+unfolding bind walkOf Written
 bind-else (ended s) k h e = let answer = h .answer in let z : _≡_ {A = ℕ} 0 1 = cc in absurd (omega arith)
 bind-else (broke s r) k h e = record { answer = h .answer; written = h .written }
 
 pub told-done : (v : Visitor St) (b : ℕ) (s₀ : St) (t : Trace) → t ≡ done → Told (run v b s₀ t) (walk.Done (s₀ .n)) (s₀ .out)
-unfolding run walkOf ranOut
+unfolding run walkOf Written
 told-done v b s₀ t e = rw e (record { answer = refl; written = refl })
 
 -- 2. The bytes from the front
 
 module _ (v : Visitor St) (b : ℕ) (s₀ : St) where
   pub told-refused : (t : Trace) (r : Refusal) → t ≡ refuse r → Told (run v b s₀ t) (walk.Refused r) (s₀ .out)
-  unfolding run walkOf ranOut
+  unfolding run walkOf Written
   told-refused t r e = rw e (record { answer = refl; written = refl })
 
   -- a piece, then what follows it

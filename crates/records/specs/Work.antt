@@ -73,15 +73,15 @@ unfoldable pub walkOf : Ran St → Walk
 walkOf (ended s) = walk.Done (s .n)
 walkOf (broke s r) = walk.Refused r
 
--- the buffer at the end
-unfoldable pub ranOut : Ran St → List ℕ
-ranOut (ended s) = s .out
-ranOut (broke s r) = s .out
+-- the buffer at the end: where reading was refused, nothing is said of it but its length
+unfoldable pub Written : Ran St → List ℕ → Type 0
+Written (ended s) o = o ≡ s .out
+Written (broke s r) o = length o ≡ length (s .out)
 
 -- an answer and what was written are those of x
 pub record Told (x : Ran St) (w : Walk) (o : List ℕ) : Type 0 where
   pub answer : w ≡ walkOf x
-  pub written : o ≡ ranOut x
+  pub written : Written x o
 
 -- the answer of a walk, with the place after what it read
 unfoldable pub pieceOf : ℕ → Walk → PieceRead
@@ -91,7 +91,7 @@ pieceOf to (walk.Refused r) = piece-read.Refused r
 -- an answer with a place and what was written are those of x, which reads to the place
 pub record ToldTo (x : Ran St) (to : ℕ) (a : PieceRead) (o : List ℕ) : Type 0 where
   pub answer : a ≡ pieceOf to (walkOf x)
-  pub written : o ≡ ranOut x
+  pub written : Written x o
 
 -- the place that the head of a record shows; 0 where it is refused, a place that no answer shows, here and below
 unfoldable pub headPlace : HeadRead → ℕ
@@ -139,10 +139,12 @@ walked (refused r) n = walk.Refused r
 abbrev pub itemsOf : ℕ → Trace → List Item
 itemsOf base t = map itemOf (met base t)
 
--- answer and buffer of a walk over t, whose bytes stand at base, where so many records were kept and met before it
+-- answer and buffer of a walk over t, whose bytes stand at base, where so many records were kept and met before it: the numbers where
+-- reading ended well
 pub record Walked (t : Trace) (base kept all : ℕ) (before : List ℕ) (w : Walk) (after : List ℕ) : Type 0 where
   pub answer : w ≡ walked (ends t) (counts (kept + length (keptOf (itemsOf base t))) (all + length (itemsOf base t)))
-  pub written : after ≡ fill kept (keptOf (itemsOf base t)) before
+  pub written : ends t ≡ well → after ≡ fill kept (keptOf (itemsOf base t)) before
+  pub same-length : length after ≡ length before
 
 -- a record of the kind has nothing inside it, and is plain
 pub record BareKind (role : Role) (kind : ℕ) : Type 0 where
