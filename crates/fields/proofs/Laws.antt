@@ -8,7 +8,7 @@ use lib.Dec.{ltb, eqb}
 use lib.ListN.{length, getD, take, drop, length-take, length-drop}
 use lib.Seq.{take-all, getD-take}
 use lib.Arith.{lt-of-le-ne}
-use borrow.Author.Tests.{ltb-false, lt-ltb, le-ltb}
+use borrow.Author.Tests.{eqb-true, ltb-false, lt-ltb, le-ltb}
 use Rattle.fields.specs.declared.Refusal.{Refusal}
 use Rattle.fields.specs.declared.Refusal.the-variants.{Short, Unknown}
 use Rattle.fields.specs.declared.Reach.{Reach}
@@ -93,6 +93,12 @@ unfolding nameOf
 name-fits s n e q =
     let h = counted (Span.Refused Short) (Span.Bytes (getD s 0 0)) (Span.Bytes n) s 1 (getD s 0 0) (λ p. let z : _≡_ {A = ℕ} 0 1 = cc in omega arith) (sym e ∙ q) in
     let z : getD s 0 0 ≡ n = cc (h .0) in omega (arith, h .1)
+
+-- the count byte of a name that is read
+pub name-count : (s : List ℕ) (n : ℕ) {r : Span} → r ≡ nameOf s → r ≡ Span.Bytes n → getD s 0 0 ≡ n
+unfolding nameOf
+name-count s n e q =
+    let h = counted (Span.Refused Short) (Span.Bytes (getD s 0 0)) (Span.Bytes n) s 1 (getD s 0 0) (λ p. let z : _≡_ {A = ℕ} 0 1 = cc in omega arith) (sym e ∙ q) in cc (h .0)
 
 -- a head, a list and a name are refused for want of bytes only
 pub head-refusal : (s : List ℕ) (r : Refusal) → headOf s ≡ Head.Refused r → r ≡ Short
@@ -193,6 +199,28 @@ off-fits s {r} e q = flag-fits s r e (λ x p. let z : _≡_ {A = ℕ} 0 1 = cc i
 
 pub on-fits : (s : List ℕ) {r : FlagRead} → r ≡ flagOf s → r ≡ flag.On → 1 ≤ length s
 on-fits s {r} e q = flag-fits s r e (λ x p. let z : _≡_ {A = ℕ} 0 1 = cc in omega arith)
+
+-- the flag as a test
+pub flag-off : (s : List ℕ) → flagOf s ≡ flag.Off → eqb (getD s 0 0) 1 ≡ false
+unfolding flagOf
+flag-off s e = by-tests (ltb (length s) 1) (eqb (getD s 0 0) 0) (eqb (getD s 0 0) 1) refl e
+  where
+    by-tests : (i j k : Bool) → eqb (getD s 0 0) 0 ≡ j → pick i (flag.Refused Short) (pick j flag.Off (pick k flag.On (flag.Refused Unknown))) ≡ flag.Off
+        → eqb (getD s 0 0) 1 ≡ false
+    by-tests true j k p q = let z : _≡_ {A = ℕ} 0 1 = cc in absurd (omega arith)
+    by-tests false true k p q = rw (eqb-true (getD s 0 0) 0 p)
+    by-tests false false true p q = let z : _≡_ {A = ℕ} 0 1 = cc in absurd (omega arith)
+    by-tests false false false p q = let z : _≡_ {A = ℕ} 0 1 = cc in absurd (omega arith)
+
+pub flag-on : (s : List ℕ) → flagOf s ≡ flag.On → eqb (getD s 0 0) 1 ≡ true
+unfolding flagOf
+flag-on s e = by-tests (ltb (length s) 1) (eqb (getD s 0 0) 0) (eqb (getD s 0 0) 1) e
+  where
+    by-tests : (i j k : Bool) → pick i (flag.Refused Short) (pick j flag.Off (pick k flag.On (flag.Refused Unknown))) ≡ flag.On → k ≡ true
+    by-tests true j k q = let z : _≡_ {A = ℕ} 0 1 = cc in absurd (omega arith)
+    by-tests false true k q = let z : _≡_ {A = ℕ} 0 1 = cc in absurd (omega arith)
+    by-tests false false true q = refl
+    by-tests false false false q = let z : _≡_ {A = ℕ} 0 1 = cc in absurd (omega arith)
 
 -- a number that is not n, and n at least, is more
 pub past : {n k : ℕ} → n ≤ k → (k ≡ n → ⊥) → suc n ≤ k

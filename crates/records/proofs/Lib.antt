@@ -8,4 +8,6 @@ pub mod PiecesRead
 pub mod Bare
 pub mod Places
 pub mod Keeping
+pub mod Leaving
+pub mod Choices
 pub mod Moved

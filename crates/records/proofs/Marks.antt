@@ -1,19 +1,25 @@
 -- The sorts of records as tables, and a record as it is kept. Assumes nothing.
-use mathlib.Core.Path.{_≡_, sym, ap}
+use mathlib.Core.Path.{_≡_, refl, sym, ap}
 use mathlib.Core.Bool.{Bool, true, false}
 use mathlib.Core.List.{List, [], _∷_}
 use Prim.Native.Nat.{ℕ, _+_, _*_, _%_, _^_, _≤_, _<_}
 use native.Mathlib.Omega.{arith}
 use lib.ListN.{length, getD, set}
-use lib.Seq.{set-out}
+use lib.Dec.{eqb}
+use lib.Seq.{set-out, set-set, getD-set-same}
 use borrow.Author.Tests.{ne-eqb}
 use Rattle.fields.specs.declared.Role.{Role}
-use Rattle.records.specs.Items.{Kind, plain, temp, divert, tunnel, thread, call, variable, argument, choice, gather, parameter, stitchName, flowStart, code, assigned, nodeSorts, condSorts, exprSorts, argumentSorts, sortOf, labelled, inBranch, whatOf, itemAs, itemOf}
+use Rattle.fields.specs.Bytes.{pick}
+use Rattle.records.specs.Items.{Kind, plain, temp, divert, tunnel, thread, call, variable, argument, choice, gather, parameter, stitchName, flowStart, code, assigned, nodeSorts, condSorts, exprSorts, argumentSorts, sortOf, labelled, inBranch, leaves, whatOf, itemAs, itemOf}
 use Rattle.records.specs.Numbers.{bit, markOf, numberOf}
-use Rattle.records.specs.Work.{st, keep, keeping}
+use Rattle.records.specs.Work.{st, keep, keeping, lastSlot, leavesAt, putLeaves}
 use Rattle.records.proofs.Tables.{Misses, missed}
 
 -- 1. The tables
+
+-- the sorts of nodes, by whether an assignment sets a temp
+abbrev pub sorts-by : Bool → List Kind
+sorts-by x = plain ∷ plain ∷ plain ∷ divert ∷ tunnel ∷ thread ∷ plain ∷ plain ∷ plain ∷ plain ∷ plain ∷ plain ∷ plain ∷ pick x temp plain ∷ choice ∷ gather ∷ call ∷ []
 
 -- every other node is plain
 pub node-plain : (payload : List ℕ) (kind : ℕ)
@@ -52,19 +58,53 @@ unfolding bit
 bit-small true = omega arith
 bit-small false = omega arith
 
--- 3. A record, its sort as the code has it: plain, kept, or without a slot
+-- 3. The bit of a choice that leaves, in the number that was kept last
+
+module _ (n next : ℕ) (e : next ≡ (n + 4294967297) % 2 ^ 64) where
+  last-there : lastSlot next ≡ n % 4294967296
+  unfolding lastSlot
+  last-there = omega (arith, e)
+
+  put-there : (leaves : Bool) (x : ℕ) (out : List ℕ) → n % 4294967296 < length out → x < 67108864
+      → putLeaves leaves next (set out (n % 4294967296) x) ≡ set out (n % 4294967296) (x + 67108864 * bit leaves)
+  unfolding putLeaves leavesAt bit
+  put-there true x out h small =
+      let fits : (x + 67108864) % 2 ^ 32 ≡ x + 67108864 * 1 = omega arith in
+      rw (last-there, getD-set-same out (n % 4294967296) x 0 h, fits) (set-set out (n % 4294967296) x (x + 67108864 * 1))
+  put-there false x out h small = let none : x ≡ x + 67108864 * 0 = omega arith in ap (set out (n % 4294967296)) none
+
+  put-nowhere : (leaves : Bool) (out : List ℕ) → length out ≤ n % 4294967296 → putLeaves leaves next out ≡ out
+  unfolding putLeaves leavesAt
+  put-nowhere true out h = rw last-there (set-out out (n % 4294967296) ((getD out (n % 4294967296) 0 + 67108864) % 2 ^ 32) h)
+  put-nowhere false out h = refl
+
+-- 4. A record, its sort as the code has it: plain, kept, or without a slot
 
 module _ (out : List ℕ) (n : ℕ) (role : Role) (kind place : ℕ) (payload : List ℕ) {sort next : ℕ} (found : sort ≡ code (sortOf role kind payload)) where
   pub note-plain : sort ≡ 0 → next ≡ (n + 4294967296) % 2 ^ 64 → st out next ≡ keeping (st out n) role kind place payload
   unfolding keeping keep itemOf itemAs whatOf
   note-plain z e = rw (← found, z, e)
 
-  module _ (other : sort ≡ 0 → ⊥) (e : next ≡ (n + 4294967297) % 2 ^ 64) where
-    pub note-kept : {branch label : ℕ} → branch ≡ bit (inBranch role) → label ≡ bit (labelled (sortOf role kind payload) payload)
-        → st (set out (n % 4294967296) (place + 1048576 * (sort + 16 * branch + 32 * label))) next ≡ keeping (st out n) role kind place payload
-    unfolding keeping keep itemOf itemAs whatOf numberOf markOf
-    note-kept p q = rw (p, q, ← found, ne-eqb 0 sort (λ z. other (sym z)), e)
+  -- which leaves nowhere
+  pub plain-noted : sort ≡ 0 → next ≡ (n + 4294967296) % 2 ^ 64
+      → st (putLeaves (leaves (sortOf role kind payload) payload) next out) next ≡ keeping (st out n) role kind place payload
+  unfolding leaves putLeaves
+  plain-noted z e = let stays : eqb (code (sortOf role kind payload)) 8 ≡ false = rw (← found, z) in rw stays (note-plain z e)
 
-    pub note-full : length out ≤ n % 4294967296 → st out next ≡ keeping (st out n) role kind place payload
+  module _ (other : sort ≡ 0 → ⊥) (e : next ≡ (n + 4294967297) % 2 ^ 64) where
+    pub note-kept : {branch label : ℕ} → branch ≡ bit (inBranch role) → label ≡ bit (labelled (sortOf role kind payload) payload) → place < 1048576 → n % 4294967296 < length out
+        → st (putLeaves (leaves (sortOf role kind payload) payload) next (set out (n % 4294967296) (place + 1048576 * (sort + 16 * branch + 32 * label)))) next
+        ≡ keeping (st out n) role kind place payload
+    unfolding keeping keep itemOf itemAs whatOf numberOf markOf
+    note-kept {branch} {label} p q small h =
+        let l = leaves (sortOf role kind payload) payload in
+        let x = place + 1048576 * (sort + 16 * branch + 32 * label) in
+        let there = put-there n next e l x out h
+        (omega (arith, small, found, code-small (sortOf role kind payload), p, bit-small (inBranch role), q, bit-small (labelled (sortOf role kind payload) payload))) in
+        let whole : x + 67108864 * bit l ≡ place + 1048576 * (sort + 16 * branch + 32 * label + 64 * bit l) = omega arith in
+        rw (there, whole, p, q, ← found, ne-eqb 0 sort (λ z. other (sym z)), e)
+
+    pub note-full : length out ≤ n % 4294967296 → st (putLeaves (leaves (sortOf role kind payload) payload) next out) next ≡ keeping (st out n) role kind place payload
     unfolding keeping keep itemOf itemAs whatOf
-    note-full p = rw (← found, ne-eqb 0 sort (λ z. other (sym z)), e, set-out out (n % 4294967296) (numberOf (itemOf (record { role = role; kind = kind; place = place; payload = payload }))) p)
+    note-full p =
+        rw (put-nowhere n next e (leaves (sortOf role kind payload) payload) out p, ← found, ne-eqb 0 sort (λ z. other (sym z)), e, set-out out (n % 4294967296) (numberOf (itemOf (record { role = role; kind = kind; place = place; payload = payload }))) p)

@@ -267,6 +267,11 @@ met-count s lo hi b done p h = omega arith
 met-count s lo hi b (refuse x) p h = omega arith
 met-count s lo hi b (emit role kind a bs t) p h = omega (arith, h .0, met-count s (suc a) hi b t (omega (arith, h .0)) (h .2))
 
+-- a payload has no more records than bytes
+pub payload-count : (left b : ℕ) (c : Body) (s : List ℕ) → length (met b (bodyOf c (recordOf left) s)) ≤ length s
+payload-count left b c s =
+    omega (arith, met-count s 0 (length s) b (bodyOf c (recordOf left) s) (omega arith) (body-places (recordOf left) (record-places left) c s))
+
 -- places rise strictly
 pub places-rise : (b : ℕ) (s : List ℕ) → Sorted Before (met b (nodes s))
 places-rise b s = met-rising s 0 (length s) b (nodes s) (nodes-places s)

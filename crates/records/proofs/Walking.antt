@@ -34,7 +34,7 @@ use Rattle.records.proofs.Readings.{repeat-none, repeat-step, piece-loc
 
 -- 1. What an answer and what was written say. `x` is the run of a part, and `k` what follows it.
 
-told-ended : (x : Ran St) {w : Walk} {o : List ℕ} {m : ℕ} → Told x w o → w ≡ walk.Done m → x ≡ ended (st o m)
+pub told-ended : (x : Ran St) {w : Walk} {o : List ℕ} {m : ℕ} → Told x w o → w ≡ walk.Done m → x ≡ ended (st o m)
 unfolding walkOf Written
 told-ended x {w} {o} {m} h e = by-end x (h .answer) (h .written)
   where

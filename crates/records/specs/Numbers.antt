@@ -1,20 +1,21 @@
--- The number that is kept for an item: its place (under 2^20), and above it its sort, whether it stands in a branch, whether its name is a label.
+-- The number that is kept for an item: its place (under 2^20), and above it its sort, whether it stands in a branch, whether its name is a label,
+-- whether it is a choice that leaves.
 use Prim.Native.Nat.{ℕ, _+_, _*_, _/_, _%_}
 use mathlib.Core.Bool.{Bool, true, false, not, _&&_}
 use mathlib.Core.List.{List, [], _∷_}
 use lib.Dec.{ltb, eqb}
 use lib.ListN.{getD, take, drop}
 use Rattle.fields.specs.Bytes.{Head, pick, headOf}
-use Rattle.records.specs.Items.{Kind, plain, temp, divert, tunnel, thread, call, variable, argument, choice, gather, code, What, is, Item, nameStart, recordName, leaves}
+use Rattle.records.specs.Items.{Kind, plain, temp, divert, tunnel, thread, call, variable, argument, choice, gather, code, What, is, Item, nameStart, recordName}
 
 -- a test as a number
 unfoldable pub bit : Bool → ℕ
 bit true = 1
 bit false = 0
 
--- sort, branch and label as one number under 64
+-- sort, branch, label and leaving as one number under 128
 unfoldable pub markOf : What → ℕ
-markOf w = code (w .kind) + 16 * bit (w .branch) + 32 * bit (w .labels)
+markOf w = code (w .kind) + 16 * bit (w .branch) + 32 * bit (w .labels) + 64 * bit (w .leaves)
 
 -- THE NUMBER of an item
 unfoldable pub numberOf : Item → ℕ
@@ -41,9 +42,13 @@ sortIn x = getD sorts (x / 1048576 % 16) plain
 unfoldable pub branchIn : ℕ → Bool
 branchIn x = eqb (x / 1048576 / 16 % 2) 1
 
--- whether its name is a label
+-- whether its name is a label,
 unfoldable pub labelsIn : ℕ → Bool
-labelsIn x = eqb (x / 1048576 / 32) 1
+labelsIn x = eqb (x / 1048576 / 32 % 2) 1
+
+-- whether it is a choice that leaves
+unfoldable pub leavesIn : ℕ → Bool
+leavesIn x = eqb (x / 1048576 / 64) 1
 
 -- the payload behind a head
 unfoldable pub payloadBehind : Head → List ℕ → List ℕ
@@ -64,7 +69,7 @@ itemIn file x = record {
     name = recordName (sortIn x) (payloadAt file (placeIn x));
     labels = labelsIn x;
     branch = branchIn x;
-    leaves = leaves (sortIn x) (payloadAt file (placeIn x));
+    leaves = leavesIn x;
   };
 }
 

@@ -1,12 +1,14 @@
 -- Inner contract. A walk as it goes: the buffer, and how many records were kept and met so far; and the places after pieces.
 use Prim.Native.Nat.{ℕ, _+_, _*_, _%_, _^_}
 use mathlib.Core.Path.{_≡_}
+use mathlib.Core.Bool.{Bool, true, false, _&&_}
 use mathlib.Core.List.{List, [], _∷_, map}
-use lib.ListN.{length, drop, set}
+use lib.ListN.{length, getD, drop, set}
 use Rattle.fields.specs.declared.Refusal.{Refusal}
 use Rattle.fields.specs.declared.Refusal.the-variants.{Short}
 use Rattle.fields.specs.declared.Role.{Role}
-use Rattle.fields.specs.declared.Body.the-variants.{Exprs}
+use Rattle.fields.specs.declared.Body.{Body}
+use Rattle.fields.specs.declared.Body.the-variants as body
 use Rattle.fields.specs.declared.Kinded.the-variants.{Known}
 use Rattle.fields.specs.Kinds.{kindOf}
 use Rattle.fields.specs.declared.Reach.{Reach}
@@ -15,11 +17,13 @@ use Rattle.fields.specs.declared.HeadRead.{HeadRead}
 use Rattle.fields.specs.declared.HeadRead.the-variants as head-read
 use Rattle.fields.specs.declared.FlagRead.{FlagRead}
 use Rattle.fields.specs.declared.FlagRead.the-variants as flag
-use Rattle.fields.specs.Bytes.{pick, headOf, headRead, listOf, spanReach, flagOf}
+use Rattle.fields.specs.Bytes.{pick, headOf, headRead, listOf, nameOf, spanReach, flagOf}
 use Rattle.records.specs.Trace.{Trace, done, refuse, emit, met, Ending, well, refused, ends}
-use Rattle.records.specs.Items.{plain, code, is, Item, sortOf, itemOf}
+use Rattle.records.specs.Items.{plain, code, is, Item, sortOf, itemOf, spanned, past, choiceBody, endWithDivert}
 use Rattle.records.specs.declared.PieceRead.{PieceRead}
 use Rattle.records.specs.declared.PieceRead.the-variants as piece-read
+use Rattle.records.specs.declared.NodesRead.{NodesRead}
+use Rattle.records.specs.declared.NodesRead.the-variants as nodes-read
 use Rattle.records.specs.declared.Walk.{Walk}
 use Rattle.records.specs.declared.Walk.the-variants as walk
 use Rattle.records.specs.Numbers.{numberOf, keptOf}
@@ -93,6 +97,79 @@ pub record ToldTo (x : Ran St) (to : ℕ) (a : PieceRead) (o : List ℕ) : Type 
   pub answer : a ≡ pieceOf to (walkOf x)
   pub written : Written x o
 
+-- the place after a piece that begins so many bytes on
+unfoldable pub reachAfter : ℕ → Reach → Reach
+reachAfter a (reach.To e) = reach.To (a + e)
+reachAfter a (reach.Refused r) = reach.Refused r
+
+-- the place after the label of a choice, a flag and a name if it is 1
+unfoldable pub labelReachOf : FlagRead → List ℕ → Reach
+labelReachOf flag.Off s = reach.To 1
+labelReachOf flag.On s = reachAfter 1 (spanReach 1 (nameOf (drop 1 s)))
+labelReachOf (flag.Refused r) s = reach.Refused r
+
+-- the same, by the flag that the bytes have
+abbrev pub labelReach : List ℕ → Reach
+labelReach s = labelReachOf (flagOf s) s
+
+-- the bytes of the second of two lists
+unfoldable pub secondList : List ℕ → List ℕ
+secondList s = spanned (listOf (past (listOf s) s)) (past (listOf s) s)
+
+-- the answer of a walk over the nodes of a choice, by whether they leave
+unfoldable pub nodesOf : Bool → Walk → NodesRead
+nodesOf leaves (walk.Done n) = nodes-read.Done n leaves
+nodesOf leaves (walk.Refused r) = nodes-read.Refused r
+
+-- an answer with whether the nodes leave, and what was written, are those of x
+pub record ToldNodes (x : Ran St) (leaves : Bool) (a : NodesRead) (o : List ℕ) : Type 0 where
+  pub answer : a ≡ nodesOf leaves (walkOf x)
+  pub written : Written x o
+
+-- that answer, with nothing left behind
+unfoldable pub nodesEnd : NodesRead → List ℕ → NodesRead
+nodesEnd a [] = a
+nodesEnd (nodes-read.Done n leaves) (x ∷ s) = nodes-read.Refused Short
+nodesEnd (nodes-read.Refused r) (x ∷ s) = nodes-read.Refused r
+
+-- the payload is a choice's
+unfoldable pub isChoice : Body → Bool
+isChoice (body.Exprs n r) = false
+isChoice body.Single = false
+isChoice (body.Call r) = false
+isChoice body.Conditional = false
+isChoice body.Switch = false
+isChoice body.Sequence = false
+isChoice body.Assign = false
+isChoice body.Choice = true
+
+-- the payload is a choice's, and its nodes leave
+unfoldable pub payloadLeaves : Body → List ℕ → Bool
+payloadLeaves b payload = isChoice b && endWithDivert (choiceBody payload)
+
+-- the slot of the number that was kept last, by the counts after it
+unfoldable pub lastSlot : ℕ → ℕ
+lastSlot n = (n + 4294967295) % 2 ^ 64 % 4294967296
+
+-- the buffer, its number in the slot with the bit of a choice that leaves
+unfoldable pub leavesAt : ℕ → List ℕ → List ℕ
+leavesAt slot out = set out slot ((getD out slot 0 + 67108864) % 2 ^ 32)
+
+-- the buffer, the number that was kept last with that bit where the test says so
+unfoldable pub putLeaves : Bool → ℕ → List ℕ → List ℕ
+putLeaves true n out = leavesAt (lastSlot n) out
+putLeaves false n out = out
+
+-- the answer of a choice, by that of its nodes
+unfoldable pub nodesWalk : NodesRead → Walk
+nodesWalk (nodes-read.Done n leaves) = walk.Done n
+nodesWalk (nodes-read.Refused r) = walk.Refused r
+
+-- the buffer after a choice, by the answer of its nodes and the counts before them
+unfoldable pub nodesPut : NodesRead → ℕ → List ℕ → List ℕ
+nodesPut (nodes-read.Done m leaves) n out = putLeaves leaves n out
+nodesPut (nodes-read.Refused r) n out = out
+
 -- the place that the head of a record shows; 0 where it is refused, a place that no answer shows, here and below
 unfoldable pub headPlace : HeadRead → ℕ
 headPlace (head-read.To kind e) = e
@@ -149,7 +226,7 @@ pub record Walked (t : Trace) (base kept all : ℕ) (before : List ℕ) (w : Wal
 -- a record of the kind has nothing inside it, and is plain
 pub record BareKind (role : Role) (kind : ℕ) : Type 0 where
   pub inner : Role
-  pub nothing-inside : kindOf role kind ≡ Known (Exprs 0 inner)
+  pub nothing-inside : kindOf role kind ≡ Known (body.Exprs 0 inner)
   pub is-plain : (payload : List ℕ) → 0 ≡ code (sortOf role kind payload)
 
 -- a record of the kind, with this place after it from its kind byte on and so many levels left, is nothing but its head, and is plain

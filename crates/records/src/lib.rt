@@ -26,6 +26,12 @@ pub enum PieceRead {
     Refused(Refusal),
 }
 
+// The counts after the nodes of a choice that were read, and whether they leave: the last that is no Newline is a divert or a return; or the refusal.
+pub enum NodesRead {
+    Done(usize, bool),
+    Refused(Refusal),
+}
+
 // The nodes of a root, a flow or a stitch, which stand at base, after so many records kept and met.
 pub fn walk_nodes(s: &[u8], base: usize, out: &mut [u32], n: usize) -> Walk
     requires { ⌜ base + length (now s) < 2 ^ 20 ⌝ }

@@ -4,8 +4,12 @@ ghost use Prim.Native.Nat.{_+_, _<_, _^_};
 ghost use lib.ListN.{length};
 ghost use Rattle.fields.specs.declared.Role.the-variants as Role;
 ghost use Rattle.records.specs.Grammar.{recordOf, records, exact, ending, repeat, front, listed, named, flagged, last, orElse, arms, options, bodyOf, nothing, tested, branch, moded};
-ghost use Rattle.records.specs.Work.{run, st, keeping, Told, pieceOf, ToldTo, headEnd, listEnd, testEnd, branchEnd, endOf};
+ghost use lib.Dec.{eqb};
+ghost use Rattle.fields.specs.Bytes.{pick, listOf};
+ghost use Rattle.records.specs.Items.{sortOf, leaving, leaves, spanned, choiceBody, endWithDivert};
+ghost use Rattle.records.specs.Work.{run, st, keeping, Told, pieceOf, ToldTo, headEnd, listEnd, testEnd, branchEnd, endOf, labelReach, secondList, ToldNodes, nodesEnd, payloadLeaves, putLeaves, nodesWalk, nodesPut};
 use crate::MET;
+use crate::NodesRead;
 use crate::PieceRead;
 use crate::Walk;
 use crate::sorts::PLAIN;
@@ -26,10 +30,10 @@ use fields::read_kind;
 use fields::read_list;
 use fields::read_name;
 
-// A record, kept in its slot where it is not plain and there is one for it. Answers the counts with it.
+// A record, kept in its slot where it is not plain and there is one for it; that of a choice yet without the bit that it leaves. Answers the counts with it.
 fn note(role: Role, kind: u8, payload: &[u8], place: usize, out: &mut [u32], n: usize) -> usize
     requires { ⌜ place < 2 ^ 20 ⌝ }
-    ensures { λ r. ⌜ st (now (out .exit)) r ≡ keeping (st (now (out .entry)) n) role kind place (now (payload .entry)) ⌝ }
+    ensures { λ r. ⌜ st (putLeaves (leaves (sortOf role kind (now (payload .entry))) (now (payload .entry))) r (now (out .exit))) r ≡ keeping (st (now (out .entry)) n) role kind place (now (payload .entry)) ⌝ }
 {
     let sort = sort_of(role, kind, payload);
     if sort == PLAIN {
@@ -78,6 +82,73 @@ fn single(s: &[u8], base: usize, out: &mut [u32], n: usize) -> Walk
     }
 }
 
+// The label of a choice, a flag and a name if it is 1: the place after it.
+fn read_label(s: &[u8]) -> Reach
+    requires { ⌜ length (now s) < 2 ^ 20 ⌝ }
+    ensures { λ r. ⌜ r ≡ labelReach (now (s .entry)) ⌝ }
+{
+    let flag = read_flag(s);
+    match flag {
+        FlagRead::Refused(r) => Reach::Refused(r),
+        FlagRead::Off => Reach::To(1),
+        FlagRead::On => {
+            let reach = read_name(&s[1..]);
+            let Reach::To(e) = reach else {
+                return reach;
+            };
+            Reach::To(1 + e)
+        }
+    }
+}
+
+// The nodes leave so far, with one more: of those that are no Newline the last decides.
+fn leaves_after(kind: u8, sofar: bool) -> bool
+    ensures { λ r. ⌜ r ≡ pick (eqb kind 1) sofar (leaving kind) ⌝ }
+{
+    match kind {
+        1 => sofar,
+        3 => true,
+        6 => true,
+        7 => true,
+        11 => true,
+        12 => true,
+        _ => false,
+    }
+}
+
+// The nodes of a choice, with nothing left behind their list.
+fn nodes_end(nodes: NodesRead, rest: &[u8]) -> NodesRead
+    ensures { λ r. ⌜ r ≡ nodesEnd nodes (now (rest .entry)) ⌝ }
+{
+    let NodesRead::Done(_, _) = nodes else {
+        return nodes;
+    };
+    if 0 < rest.len() {
+        return NodesRead::Refused(Refusal::Short);
+    }
+    nodes
+}
+
+// The answer of a choice, by that of its nodes. Where they leave, the number that was kept last before them gets the bit for it.
+fn put_leaves(nodes: NodesRead, out: &mut [u32], n: usize) -> Walk
+    ensures { λ r. ⌜ (r ≡ nodesWalk nodes) × (now (out .exit) ≡ nodesPut nodes n (now (out .entry))) ⌝ }
+{
+    match nodes {
+        NodesRead::Refused(r) => Walk::Refused(r),
+        NodesRead::Done(m, leaves) => {
+            if leaves {
+                let slot = std::num::wrapping_add_usize(n, MET - 1) % MET;
+                if slot < out.len() {
+                    out[slot] = std::num::wrapping_add_u32(out[slot], 67108864);
+                    return Walk::Done(m);
+                }
+                return Walk::Done(m);
+            }
+            Walk::Done(m)
+        }
+    }
+}
+
 // A record of a role, by its kind.
 fn record(
     s: &[u8],
@@ -104,7 +175,7 @@ fn record(
 // A payload.
 fn body(s: &[u8], body: Body, base: usize, left: usize, out: &mut [u32], n: usize) -> Walk
     requires { ⌜ base + length (now s) < 2 ^ 20 ⌝ }
-    ensures { λ r. ⌜ Told (run keeping base (st (now (out .entry)) n) (bodyOf body (recordOf left) (now (s .entry)))) r (now (out .exit)) ⌝ }
+    ensures { λ r. ⌜ Told (run keeping base (st (putLeaves (payloadLeaves body (now (s .entry))) n (now (out .entry))) n) (bodyOf body (recordOf left) (now (s .entry)))) r (now (out .exit)) ⌝ }
 {
     match body {
         Body::Exprs(many, role) => exact(s, many, role, base, left, out, n),
@@ -241,21 +312,21 @@ fn else_arm(s: &[u8], base: usize, left: usize, out: &mut [u32], n: usize) -> Wa
     let flag = read_flag(s);
     match flag {
         FlagRead::Off => at_end(&s[1..], n),
-        FlagRead::On => last(&s[1..], Role::Branch, base + 1, left, out, n),
+        FlagRead::On => last(&s[1..], base + 1, left, out, n),
         FlagRead::Refused(r) => Walk::Refused(r),
     }
 }
 
-// A list of nodes, and nothing more.
-fn last(s: &[u8], role: Role, base: usize, left: usize, out: &mut [u32], n: usize) -> Walk
+// A list of nodes in a branch, and nothing more.
+fn last(s: &[u8], base: usize, left: usize, out: &mut [u32], n: usize) -> Walk
     requires { ⌜ base + length (now s) < 2 ^ 20 ⌝ }
-    ensures { λ r. ⌜ Told (run keeping base (st (now (out .entry)) n) (last role (recordOf left) (now (s .entry)))) r (now (out .exit)) ⌝ }
+    ensures { λ r. ⌜ Told (run keeping base (st (now (out .entry)) n) (last Role.Branch (recordOf left) (now (s .entry)))) r (now (out .exit)) ⌝ }
 {
     let reach = read_list(s);
     match reach {
         Reach::Refused(r) => Walk::Refused(r),
         Reach::To(e) => {
-            let w = list(&s[4..e], role, base + 4, left, out, n);
+            let w = list(&s[4..e], Role::Branch, base + 4, left, out, n);
             let Walk::Done(m) = w else {
                 return w;
             };
@@ -292,47 +363,92 @@ fn lists(s: &[u8], base: usize, left: usize, out: &mut [u32], n: usize) -> Walk
     Walk::Done(count)
 }
 
-// A flag, a label if it is 1, conditions and nodes.
+// A choice: a label, conditions and nodes. Where the nodes leave, its number, which was kept last, gets the bit for it.
 fn choice(s: &[u8], base: usize, left: usize, out: &mut [u32], n: usize) -> Walk
     requires { ⌜ base + length (now s) < 2 ^ 20 ⌝ }
-    ensures { λ r. ⌜ Told (run keeping base (st (now (out .entry)) n) (flagged (options (recordOf left)) (named (options (recordOf left))) (now (s .entry)))) r (now (out .exit)) ⌝ }
+    ensures { λ r. ⌜ Told (run keeping base (st (putLeaves (endWithDivert (choiceBody (now (s .entry)))) n (now (out .entry))) n) (flagged (options (recordOf left)) (named (options (recordOf left))) (now (s .entry)))) r (now (out .exit)) ⌝ }
 {
-    let flag = read_flag(s);
-    match flag {
-        FlagRead::Off => options(&s[1..], base + 1, left, out, n),
-        FlagRead::On => label(&s[1..], base + 1, left, out, n),
-        FlagRead::Refused(r) => Walk::Refused(r),
-    }
-}
-
-// A label, conditions and nodes.
-fn label(s: &[u8], base: usize, left: usize, out: &mut [u32], n: usize) -> Walk
-    requires { ⌜ base + length (now s) < 2 ^ 20 ⌝ }
-    ensures { λ r. ⌜ Told (run keeping base (st (now (out .entry)) n) (named (options (recordOf left)) (now (s .entry)))) r (now (out .exit)) ⌝ }
-{
-    let reach = read_name(s);
-    match reach {
-        Reach::Refused(r) => Walk::Refused(r),
-        Reach::To(e) => options(&s[e..], base + e, left, out, n),
-    }
-}
-
-// A list of conditions, and a list of nodes.
-fn options(s: &[u8], base: usize, left: usize, out: &mut [u32], n: usize) -> Walk
-    requires { ⌜ base + length (now s) < 2 ^ 20 ⌝ }
-    ensures { λ r. ⌜ Told (run keeping base (st (now (out .entry)) n) (options (recordOf left) (now (s .entry)))) r (now (out .exit)) ⌝ }
-{
-    let reach = read_list(s);
+    let reach = read_label(s);
     match reach {
         Reach::Refused(r) => Walk::Refused(r),
         Reach::To(e) => {
-            let w = list(&s[4..e], Role::Cond, base + 4, left, out, n);
-            let Walk::Done(m) = w else {
-                return w;
-            };
-            last(&s[e..], Role::Node, base + e, left, out, m)
+            let nodes = options(&s[e..], base + e, left, out, n);
+            put_leaves(nodes, out, n)
         }
     }
+}
+
+// A list of conditions, and the nodes of a choice.
+fn options(s: &[u8], base: usize, left: usize, out: &mut [u32], n: usize) -> NodesRead
+    requires { ⌜ base + length (now s) < 2 ^ 20 ⌝ }
+    ensures { λ r. ⌜ ToldNodes (run keeping base (st (now (out .entry)) n) (options (recordOf left) (now (s .entry)))) (endWithDivert (secondList (now (s .entry)))) r (now (out .exit)) ⌝ }
+{
+    let reach = read_list(s);
+    match reach {
+        Reach::Refused(r) => NodesRead::Refused(r),
+        Reach::To(e) => {
+            let w = list(&s[4..e], Role::Cond, base + 4, left, out, n);
+            match w {
+                Walk::Refused(r) => NodesRead::Refused(r),
+                Walk::Done(m) => choice_nodes(&s[e..], base + e, left, out, m),
+            }
+        }
+    }
+}
+
+// The nodes of a choice, a list, and nothing more.
+fn choice_nodes(s: &[u8], base: usize, left: usize, out: &mut [u32], n: usize) -> NodesRead
+    requires { ⌜ base + length (now s) < 2 ^ 20 ⌝ }
+    ensures { λ r. ⌜ ToldNodes (run keeping base (st (now (out .entry)) n) (last Role.Node (recordOf left) (now (s .entry)))) (endWithDivert (spanned (listOf (now (s .entry))) (now (s .entry)))) r (now (out .exit)) ⌝ }
+{
+    let reach = read_list(s);
+    match reach {
+        Reach::Refused(r) => NodesRead::Refused(r),
+        Reach::To(e) => {
+            let nodes = leaving(&s[4..e], base + 4, left, out, n);
+            nodes_end(nodes, &s[e..])
+        }
+    }
+}
+
+// Nodes of a choice to the end, and whether they leave.
+fn leaving(s: &[u8], base: usize, left: usize, out: &mut [u32], n: usize) -> NodesRead
+    requires { ⌜ base + length (now s) < 2 ^ 20 ⌝ }
+    ensures { λ r. ⌜ ToldNodes (run keeping base (st (now (out .entry)) n) (records (recordOf left Role.Node) (now (s .entry)))) (endWithDivert (now (s .entry))) r (now (out .exit)) ⌝ }
+{
+    let mut t = s;
+    let mut at = base;
+    let mut count = n;
+    let mut leaves = false;
+    while 0 < t.len() {
+        let head = read_head(t);
+        match head {
+            HeadRead::Refused(r) => {
+                return NodesRead::Refused(r);
+            }
+            HeadRead::To(kind, e) => {
+                leaves = leaves_after(kind, leaves);
+                if is_bare(Role::Node, kind, e, left) {
+                    count = std::num::wrapping_add_usize(count, MET);
+                    at = at + e;
+                    t = &t[e..];
+                    continue;
+                }
+                let w = record(&t[5..e], Role::Node, kind, at, left, out, count);
+                match w {
+                    Walk::Refused(r) => {
+                        return NodesRead::Refused(r);
+                    }
+                    Walk::Done(m) => {
+                        count = m;
+                        at = at + e;
+                        t = &t[e..];
+                    }
+                }
+            }
+        }
+    }
+    NodesRead::Done(count, leaves)
 }
 
 // An expression, and branches to the end.

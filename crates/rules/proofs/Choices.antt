@@ -18,7 +18,7 @@ use Rattle.fields.specs.declared.FlagRead.{FlagRead}
 use Rattle.fields.specs.declared.FlagRead.the-variants as flag
 use Rattle.fields.specs.Bytes.{Head, Span, pick, headOf, listOf, nameOf, flagOf}
 use Rattle.fields.specs.Kinds.{nodeKind, kindOf}
-use Rattle.fields.proofs.Laws.{head-fits}
+use Rattle.fields.proofs.Laws.{head-fits, name-count, flag-off, flag-on}
 use Rattle.names.specs.Words.{_∈_}
 use Rattle.names.proofs.Any.{any-in, any-of}
 use Rattle.names.proofs.Means.{Means}
@@ -29,7 +29,6 @@ use Rattle.records.proofs.Readings.{front-local, repeat-step}
 use Rattle.records.specs.Items.{Kind, plain, temp, divert, tunnel, thread, call, variable, argument, choice, gather, parameter, stitchName, flowStart, code, What, Item, sortOf, leaving, endingAt, endingN, endWithDivert, spanned, past, unlabelled, choiceBody, leaves, whatOf, itemAs, itemOf}
 use Rattle.story.specs.Story.{Story}
 use Rattle.story.proofs.Endings.{ends-then, ends-shift, second-well}
-use Rattle.story.proofs.Unfolding.{name-count}
 use Rattle.story.proofs.WellInside.{record-bears}
 use Rattle.rules.specs.declared.Rule.the-variants.{ChoiceUndiverted}
 use Rattle.rules.specs.Rules.{Scope}
@@ -128,27 +127,6 @@ module _ (f : Reader) where
   kinds-of s good = kinds-in (length s) s (omega arith) good
 
 -- 3. The body of a choice is its second list
-
-flag-off : (s : List ℕ) → flagOf s ≡ flag.Off → eqb (getD s 0 0) 1 ≡ false
-unfolding flagOf
-flag-off s e = by-tests (ltb (length s) 1) (eqb (getD s 0 0) 0) (eqb (getD s 0 0) 1) refl e
-  where
-    by-tests : (i j k : Bool) → eqb (getD s 0 0) 0 ≡ j → pick i (flag.Refused Short) (pick j flag.Off (pick k flag.On (flag.Refused Unknown))) ≡ flag.Off
-        → eqb (getD s 0 0) 1 ≡ false
-    by-tests true j k p q = let z : _≡_ {A = ℕ} 0 1 = cc in absurd (omega arith)
-    by-tests false true k p q = rw (eqb-true (getD s 0 0) 0 p)
-    by-tests false false true p q = let z : _≡_ {A = ℕ} 0 1 = cc in absurd (omega arith)
-    by-tests false false false p q = let z : _≡_ {A = ℕ} 0 1 = cc in absurd (omega arith)
-
-flag-on : (s : List ℕ) → flagOf s ≡ flag.On → eqb (getD s 0 0) 1 ≡ true
-unfolding flagOf
-flag-on s e = by-tests (ltb (length s) 1) (eqb (getD s 0 0) 0) (eqb (getD s 0 0) 1) e
-  where
-    by-tests : (i j k : Bool) → pick i (flag.Refused Short) (pick j flag.Off (pick k flag.On (flag.Refused Unknown))) ≡ flag.On → k ≡ true
-    by-tests true j k q = let z : _≡_ {A = ℕ} 0 1 = cc in absurd (omega arith)
-    by-tests false true k q = let z : _≡_ {A = ℕ} 0 1 = cc in absurd (omega arith)
-    by-tests false false true q = refl
-    by-tests false false false q = let z : _≡_ {A = ℕ} 0 1 = cc in absurd (omega arith)
 
 label-then : (s rest : List ℕ) → LabelThen s rest → unlabelled s ≡ rest
 unfolding unlabelled

@@ -8,14 +8,13 @@ use lib.ListN.{length, getD, take, drop, length-take}
 use lib.Seq.{take-take, drop-drop, getD-take, getD-drop}
 use Rattle.fields.specs.declared.Reach.the-variants as reach
 use Rattle.fields.specs.Bytes.{Span, nameOf}
-use Rattle.fields.proofs.Laws.{name-fits}
+use Rattle.fields.proofs.Laws.{name-fits, name-count}
 use Rattle.names.specs.Counted.{nameAt}
 use Rattle.records.proofs.Places.{drop-take}
 use Rattle.story.specs.Headings.{reachAt, namesReach, countedReach}
 use Rattle.records.specs.Items.{nameIn}
 use Rattle.story.specs.Flows.{namesN, countedIn, part}
 use Rattle.story.proofs.Reaches.{counted-read}
-use Rattle.story.proofs.Unfolding.{name-count}
 
 -- 1. Parts
 

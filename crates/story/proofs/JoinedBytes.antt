@@ -13,7 +13,7 @@ use Rattle.fields.specs.declared.Role.the-variants.{Node}
 use Rattle.fields.specs.declared.Refusal.the-variants.{Short}
 use Rattle.fields.specs.declared.Reach.the-variants as reach
 use Rattle.fields.specs.Bytes.{Head, Span, pick, le32At, headOf, listOf, nameOf}
-use Rattle.fields.proofs.Laws.{head-fits, list-fits, name-fits}
+use Rattle.fields.proofs.Laws.{head-fits, list-fits, name-fits, name-count}
 use Rattle.names.specs.Words.{each}
 use Rattle.records.specs.Trace.{Record, met, well, ends}
 use Rattle.records.specs.Grammar.{Reading, repeat, nodes, piece}
@@ -24,7 +24,7 @@ use Rattle.story.specs.Flows.{names, namesN, namesIn, countedIn, part, p
 use Rattle.story.specs.Whole.{Joined, Sized, IsName, AreCounted, IsRecord, withInside, AreNodes, IsList}
 use Rattle.story.proofs.Reaches.{names-fit, counted-read, counted-fits}
 use Rattle.story.proofs.Readable.{names-front, names-rest, piece-first, piece-rest, piece-none-left}
-use Rattle.story.proofs.Unfolding.{front, name-count, names-n-step}
+use Rattle.story.proofs.Unfolding.{front, names-n-step}
 use Rattle.story.proofs.Parts.{part-length}
 use Rattle.story.proofs.RecordsMet.{Nodes, none, next, met-no-node, nodes-front}
 

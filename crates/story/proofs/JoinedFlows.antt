@@ -18,7 +18,8 @@ use Rattle.story.specs.Flows.{titled, stitch, flow, countedIn, part, pie
 use Rattle.story.specs.Whole.{Joined, Sized, IsName, IsList, IsTitle, IsStitch, Flagged, IsFlow}
 use Rattle.story.proofs.Titles.{flagEnds, flow-ends}
 use Rattle.story.proofs.Readable.{TitledWell, titled-heading, flow-titled, stitch-titled}
-use Rattle.story.proofs.Unfolding.{name-count, titled-in, flow-in}
+use Rattle.fields.proofs.Laws.{name-count}
+use Rattle.story.proofs.Unfolding.{titled-in, flow-in}
 use Rattle.story.proofs.Parts.{part-length}
 use Rattle.story.proofs.JoinedBytes.{part-split, front-split, is-name, counted-joined, pieces-joined, is-list}
 

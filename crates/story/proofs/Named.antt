@@ -13,7 +13,7 @@ use lib.Seq.{take-all, take-take, drop-drop, getD-take, getD-drop}
 use borrow.Author.Tests.{ltb-true, ltb-false}
 use Rattle.fields.specs.declared.Reach.the-variants as reach
 use Rattle.fields.specs.Bytes.{Span, pick, nameOf}
-use Rattle.fields.proofs.Laws.{name-fits}
+use Rattle.fields.proofs.Laws.{name-fits, name-count}
 use Rattle.names.specs.Counted.{nameAt}
 use Rattle.records.specs.Trace.{Record, met, well, ends}
 use Rattle.records.specs.Grammar.{nodes}
@@ -23,7 +23,7 @@ use Rattle.story.specs.Story.{Name}
 use Rattle.story.specs.Headings.{reachAt, namesReach, countedReach}
 use Rattle.story.specs.Flows.{names, namesN, countedIn, part}
 use Rattle.story.proofs.Reaches.{counted-read}
-use Rattle.story.proofs.Unfolding.{front, name-count, names-n-step}
+use Rattle.story.proofs.Unfolding.{front, names-n-step}
 use Rattle.story.proofs.Readable.{names-front, names-rest}
 use Rattle.story.proofs.Places.{item-of}
 use Rattle.story.proofs.WellInside.{record-bears}

@@ -9,12 +9,12 @@ use lib.ListN.{length, getD, take, drop, length-take, length-drop}
 use lib.Seq.{take-take, drop-drop, getD-take, getD-drop}
 use Rattle.fields.specs.declared.Reach.the-variants as reach
 use Rattle.fields.specs.Bytes.{Span, nameOf}
-use Rattle.fields.proofs.Laws.{name-fits, name-whole}
+use Rattle.fields.proofs.Laws.{name-fits, name-whole, name-count}
 use Rattle.records.proofs.Places.{drop-take}
 use Rattle.story.specs.Headings.{reachAt, namesReach, countedReach}
 use Rattle.story.specs.Flows.{namesN, countedIn, part}
 use Rattle.story.proofs.Reaches.{names-fit, counted-read}
-use Rattle.story.proofs.Unfolding.{front, name-count, names-n-step}
+use Rattle.story.proofs.Unfolding.{front, names-n-step}
 
 -- how long a part is
 pub part-length : (a b : ℕ) (s : List ℕ) → b ≤ length s → length (part a b s) ≡ b - a

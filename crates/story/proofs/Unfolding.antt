@@ -10,7 +10,7 @@ use lib.ListN.{length, getD, take, drop, length-drop}
 use Rattle.fields.specs.declared.Refusal.{Refusal}
 use Rattle.fields.specs.declared.Refusal.the-variants.{Short}
 use Rattle.fields.specs.Bytes.{Span, pick, listOf, nameOf}
-use Rattle.fields.proofs.Laws.{list-fits, name-fits}
+use Rattle.fields.proofs.Laws.{list-fits, name-count, name-fits}
 use Rattle.story.specs.declared.Heading.{Heading}
 use Rattle.story.specs.declared.HeadingRead.{HeadingRead}
 use Rattle.story.specs.declared.HeadingRead.the-variants as heading
@@ -23,16 +23,6 @@ one-more : (n : ℕ) → 1 + n ≡ suc n
 one-more n = omega arith
 
 -- 1. Names
-
--- the count byte of a name that is read
-pub name-count : (t : List ℕ) (k : ℕ) {r : Span} → r ≡ nameOf t → r ≡ Span.Bytes k → getD t 0 0 ≡ k
-unfolding nameOf
-name-count t k p q = by-tests (ltb (length t) 1) (ltb (length t - 1) (getD t 0 0)) (sym p ∙ q)
-  where
-    by-tests : (i j : Bool) → pick i (Span.Refused Short) (pick j (Span.Refused Short) (Span.Bytes (getD t 0 0))) ≡ Span.Bytes k → getD t 0 0 ≡ k
-    by-tests true j e = let z : _≡_ {A = ℕ} 0 1 = cc in absurd (omega arith)
-    by-tests false true e = let z : _≡_ {A = ℕ} 0 1 = cc in absurd (omega arith)
-    by-tests false false e = cc
 
 -- the name at the front, k bytes long
 abbrev pub front : ℕ → ℕ → List ℕ → Name

@@ -1,7 +1,7 @@
 -- What records weigh: five bytes of head, and one more where a record is not plain. Records that are read through weigh no more than
 -- their bytes, so that a file of L bytes has at most (L - 20) / 6 records that are not plain. Assumes nothing.
 use mathlib.Core.Path.{_≡_, refl, sym, ap, _∙_}
-use mathlib.Core.Bool.{Bool, true, false, _&&_, true≢false}
+use mathlib.Core.Bool.{Bool, true, false}
 use mathlib.Core.List.{List, [], _∷_}
 use Prim.Native.Nat.{ℕ, zero, suc, _+_, _-_, _*_, _≤_}
 use native.Mathlib.Omega.{arith}
@@ -25,12 +25,14 @@ use Rattle.records.specs.Grammar.{Reading, Reader, frontAt, front, ending, repe
 use Rattle.story.specs.declared.Sections.{Sections}
 use Rattle.story.specs.declared.HeadingRead.{HeadingRead}
 use Rattle.story.specs.declared.HeadingRead.the-variants as heading
-use Rattle.records.specs.Items.{Kind, plain, temp, divert, tunnel, thread, call, choice, gather, code, nodeSorts, condSorts, exprSorts, argumentSorts, sortOf, whatOf, itemAs, itemOf}
+use Rattle.records.specs.Items.{Kind, plain, code, nodeSorts, condSorts, exprSorts, argumentSorts, sortOf, whatOf, itemAs, itemOf}
 use Rattle.story.specs.Headings.{headingOf}
 use Rattle.story.specs.Flows.{names, titled, stitch, stitches, flow, flows, part}
 use Rattle.story.specs.File.{sectionsRead, storyIn, InOrder}
 use Rattle.story.proofs.Reaches.{heading-laid}
 use Rattle.story.proofs.Parts.{part-length}
+use Rattle.records.proofs.Tables.{all-pairs, pairs-at}
+use Rattle.records.proofs.Marks.{sorts-by}
 use Rattle.records.specs.Numbers.{numberOf, keptOf}
 use Rattle.records.specs.Work.{itemsOf}
 use Rattle.story.specs.Story.{storyItems}
@@ -92,47 +94,27 @@ light : Kinded → Kind → Bool
 light (kinded.Known b) k = ltb (weight k) (6 + own b)
 light kinded.None k = true
 
-all-light : List Kinded → List Kind → Bool
-all-light [] ys = true
-all-light (x ∷ xs) [] = light x plain && all-light xs []
-all-light (x ∷ xs) (y ∷ ys) = light x y && all-light xs ys
+none-light : (k : Kind) → light kinded.None k ≡ true
+unfolding light
+none-light k = refl
 
-and-left : (a b : Bool) → a && b ≡ true → a ≡ true
-and-left true b h = refl
-and-left false b h = h
-
-and-right : (a b : Bool) → a && b ≡ true → b ≡ true
-and-right true b h = h
-and-right false b h = absurd (true≢false (sym h))
-
-table-light : (xs : List Kinded) (ys : List Kind) → all-light xs ys ≡ true → (k : ℕ) → light (getD xs k kinded.None) (getD ys k plain) ≡ true
-unfolding all-light light
-table-light [] ys h k = refl
-table-light (x ∷ xs) [] h zero = and-left (light x plain) (all-light xs []) h
-table-light (x ∷ xs) [] h (suc k) = table-light xs [] (and-right (light x plain) (all-light xs []) h) k
-table-light (x ∷ xs) (y ∷ ys) h zero = and-left (light x y) (all-light xs ys) h
-table-light (x ∷ xs) (y ∷ ys) h (suc k) = table-light xs ys (and-right (light x y) (all-light xs ys) h) k
-
-sorts-by : Bool → List Kind
-sorts-by x = plain ∷ plain ∷ plain ∷ divert ∷ tunnel ∷ thread ∷ plain ∷ plain ∷ plain ∷ plain ∷ plain ∷ plain ∷ plain ∷ pick x temp plain ∷ choice ∷ gather ∷ call ∷ []
-
-nodes-light : (x : Bool) → all-light nodeKinds (sorts-by x) ≡ true
-unfolding all-light light sorts-by weight own
+nodes-light : (x : Bool) → all-pairs light plain nodeKinds (sorts-by x) ≡ true
+unfolding all-pairs light weight own
 nodes-light true = refl
 nodes-light false = refl
 
 node-light : (payload : List ℕ) (k : ℕ) → light (nodeKind k) (getD (nodeSorts payload) k plain) ≡ true
-unfolding nodeKind sorts-by
-node-light payload k = table-light nodeKinds (nodeSorts payload) (nodes-light (eqb (getD payload 0 0) 1)) k
+unfolding nodeKind
+node-light payload k = pairs-at light kinded.None plain none-light nodeKinds (nodeSorts payload) (nodes-light (eqb (getD payload 0 0) 1)) k
 
 kind-light : (role : Role) (kind : ℕ) (payload : List ℕ) → light (kindOf role kind) (sortOf role kind payload) ≡ true
-unfolding kindOf sortOf condKind exprKind all-light light weight own
+unfolding kindOf sortOf condKind exprKind all-pairs light weight own
 kind-light Node kind payload = node-light payload kind
 kind-light Branch kind payload = node-light payload kind
-kind-light Cond kind payload = table-light condKinds condSorts refl kind
-kind-light Visited kind payload = table-light (exprKinds Visited) exprSorts refl kind
-kind-light Argument kind payload = table-light (exprKinds Unvisited) argumentSorts refl kind
-kind-light Unvisited kind payload = table-light (exprKinds Unvisited) [] refl kind
+kind-light Cond kind payload = pairs-at light kinded.None plain none-light condKinds condSorts refl kind
+kind-light Visited kind payload = pairs-at light kinded.None plain none-light (exprKinds Visited) exprSorts refl kind
+kind-light Argument kind payload = pairs-at light kinded.None plain none-light (exprKinds Unvisited) argumentSorts refl kind
+kind-light Unvisited kind payload = pairs-at light kinded.None plain none-light (exprKinds Unvisited) [] refl kind
 
 kind-weighs : (role : Role) (kind : ℕ) (payload : List ℕ) (b : Body) → kindOf role kind ≡ kinded.Known b → weight (sortOf role kind payload) ≤ 5 + own b
 unfolding light

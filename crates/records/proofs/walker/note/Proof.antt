@@ -2,7 +2,7 @@
 use Prim.Native.Nat.{_≤_, _<_}
 use native.Mathlib.Omega.{arith}
 use Rattle.records.specs.Items.{sortOf, inBranch, labelled}
-use Rattle.records.proofs.Marks.{code-small, bit-small, note-plain, note-kept, note-full}
+use Rattle.records.proofs.Marks.{code-small, bit-small, plain-noted, note-kept, note-full}
 use borrow.Author.Needs.{needs}
 use Rattle.records.proofs.walker.note.Statement.{statement}
 use Rattle.records.proofs.walker.note.Tie as tie
@@ -20,7 +20,7 @@ wrapping-add-usize-requires : tie.Need-wrapping-add-usize-requires
 wrapping-add-usize-requires c κs = search needs
 
 returns : tie.Need-returns
-returns c = note-plain (c .before .before .before .before .before .args .out .now) (c .before .before .before .before .before .args .n) (c .before .before .before .before .before .args .role) (c .before .before .before .before .before .args .kind) (c .before .before .before .before .before .args .place) (c .before .before .before .before .before .args .payload .now) (c .before .before .sort-of .ensures) (c .before .if1 .taken) (c .wrapping-add-usize .ensures)
+returns c = plain-noted (c .before .before .before .before .before .args .out .now) (c .before .before .before .before .before .args .n) (c .before .before .before .before .before .args .role) (c .before .before .before .before .before .args .kind) (c .before .before .before .before .before .args .place) (c .before .before .before .before .before .args .payload .now) (c .before .before .sort-of .ensures) (c .before .if1 .taken) (c .wrapping-add-usize .ensures)
 
 add-wrapping-add-usize : tie.Need-add-wrapping-add-usize
 add-wrapping-add-usize c = search needs
@@ -68,7 +68,7 @@ same-length : tie.Need-same-length
 same-length c = search needs
 
 returns-2 : tie.Need-returns-2
-returns-2 c = note-kept (c .before .before .before .before .before .before .before .before .args .out .now) (c .before .before .before .before .before .before .before .before .args .n) (c .before .before .before .before .before .before .before .before .args .role) (c .before .before .before .before .before .before .before .before .args .kind) (c .before .before .before .before .before .before .before .before .args .place) (c .before .before .before .before .before .before .before .before .args .payload .now) (c .before .before .before .before .before .sort-of .ensures) (c .before .before .before .before .if1 .left) (c .before .before .before .wrapping-add-usize2 .ensures) (c .before .branch-bit .ensures) (c .label-bit .ensures (sortOf (c .before .before .before .before .before .before .before .before .args .role) (c .before .before .before .before .before .before .before .before .args .kind) (c .before .before .before .before .before .before .before .before .args .payload .now)) (c .before .before .before .before .before .sort-of .ensures))
+returns-2 c = note-kept (c .before .before .before .before .before .before .before .before .args .out .now) (c .before .before .before .before .before .before .before .before .args .n) (c .before .before .before .before .before .before .before .before .args .role) (c .before .before .before .before .before .before .before .before .args .kind) (c .before .before .before .before .before .before .before .before .args .place) (c .before .before .before .before .before .before .before .before .args .payload .now) (c .before .before .before .before .before .sort-of .ensures) (c .before .before .before .before .if1 .left) (c .before .before .before .wrapping-add-usize2 .ensures) (c .before .branch-bit .ensures) (c .label-bit .ensures (sortOf (c .before .before .before .before .before .before .before .before .args .role) (c .before .before .before .before .before .before .before .before .args .kind) (c .before .before .before .before .before .before .before .before .args .payload .now)) (c .before .before .before .before .before .sort-of .ensures)) (c .before .before .before .before .before .before .before .before .pre) (c .before .before .if2 .taken)
 
 returns-3 : tie.Need-returns-3
 returns-3 c = note-full (c .before .before .before .before .before .before .args .out .now) (c .before .before .before .before .before .before .args .n) (c .before .before .before .before .before .before .args .role) (c .before .before .before .before .before .before .args .kind) (c .before .before .before .before .before .before .args .place) (c .before .before .before .before .before .before .args .payload .now) (c .before .before .before .sort-of .ensures) (c .before .before .if1 .left) (c .before .wrapping-add-usize2 .ensures) (c .if2 .left)

@@ -6,67 +6,70 @@ use borrow.Fn.Kinds.{In}
 use borrow.Fn.PlainCycle.{Measures, is, falls, and}
 use Rattle.records.proofs.walker.arms.Reads as walk-arms
 use Rattle.records.proofs.walker.arms.Kinds as walk-arms-kinds
-use Rattle.records.proofs.walker.+arms+assign+body+branch+branches+call+choice+conditional+else_arm+exact+first+front_list+label+last+list+lists+options+record+set+switch+test.Lts-arms as walk-arms-lts
+use Rattle.records.proofs.walker.+arms+assign+body+branch+branches+call+choice+choice_nodes+conditional+else_arm+exact+first+front_list+last+leaving+list+lists+options+record+set+switch+test.Lts-arms as walk-arms-lts
 use Rattle.records.proofs.walker.assign.Reads as walk-assign
 use Rattle.records.proofs.walker.assign.Kinds as walk-assign-kinds
-use Rattle.records.proofs.walker.+arms+assign+body+branch+branches+call+choice+conditional+else_arm+exact+first+front_list+label+last+list+lists+options+record+set+switch+test.Lts-assign as walk-assign-lts
+use Rattle.records.proofs.walker.+arms+assign+body+branch+branches+call+choice+choice_nodes+conditional+else_arm+exact+first+front_list+last+leaving+list+lists+options+record+set+switch+test.Lts-assign as walk-assign-lts
 use Rattle.records.proofs.walker.body.Reads as walk-body
 use Rattle.records.proofs.walker.body.Kinds as walk-body-kinds
-use Rattle.records.proofs.walker.+arms+assign+body+branch+branches+call+choice+conditional+else_arm+exact+first+front_list+label+last+list+lists+options+record+set+switch+test.Lts-body as walk-body-lts
+use Rattle.records.proofs.walker.+arms+assign+body+branch+branches+call+choice+choice_nodes+conditional+else_arm+exact+first+front_list+last+leaving+list+lists+options+record+set+switch+test.Lts-body as walk-body-lts
 use Rattle.records.proofs.walker.branch.Reads as walk-branch
 use Rattle.records.proofs.walker.branch.Kinds as walk-branch-kinds
-use Rattle.records.proofs.walker.+arms+assign+body+branch+branches+call+choice+conditional+else_arm+exact+first+front_list+label+last+list+lists+options+record+set+switch+test.Lts-branch as walk-branch-lts
+use Rattle.records.proofs.walker.+arms+assign+body+branch+branches+call+choice+choice_nodes+conditional+else_arm+exact+first+front_list+last+leaving+list+lists+options+record+set+switch+test.Lts-branch as walk-branch-lts
 use Rattle.records.proofs.walker.branches.Reads as walk-branches
 use Rattle.records.proofs.walker.branches.Kinds as walk-branches-kinds
-use Rattle.records.proofs.walker.+arms+assign+body+branch+branches+call+choice+conditional+else_arm+exact+first+front_list+label+last+list+lists+options+record+set+switch+test.Lts-branches as walk-branches-lts
+use Rattle.records.proofs.walker.+arms+assign+body+branch+branches+call+choice+choice_nodes+conditional+else_arm+exact+first+front_list+last+leaving+list+lists+options+record+set+switch+test.Lts-branches as walk-branches-lts
 use Rattle.records.proofs.walker.call.Reads as walk-call
 use Rattle.records.proofs.walker.call.Kinds as walk-call-kinds
-use Rattle.records.proofs.walker.+arms+assign+body+branch+branches+call+choice+conditional+else_arm+exact+first+front_list+label+last+list+lists+options+record+set+switch+test.Lts-call as walk-call-lts
+use Rattle.records.proofs.walker.+arms+assign+body+branch+branches+call+choice+choice_nodes+conditional+else_arm+exact+first+front_list+last+leaving+list+lists+options+record+set+switch+test.Lts-call as walk-call-lts
 use Rattle.records.proofs.walker.choice.Reads as walk-choice
 use Rattle.records.proofs.walker.choice.Kinds as walk-choice-kinds
-use Rattle.records.proofs.walker.+arms+assign+body+branch+branches+call+choice+conditional+else_arm+exact+first+front_list+label+last+list+lists+options+record+set+switch+test.Lts-choice as walk-choice-lts
+use Rattle.records.proofs.walker.+arms+assign+body+branch+branches+call+choice+choice_nodes+conditional+else_arm+exact+first+front_list+last+leaving+list+lists+options+record+set+switch+test.Lts-choice as walk-choice-lts
+use Rattle.records.proofs.walker.choice_nodes.Reads as walk-choice-nodes
+use Rattle.records.proofs.walker.choice_nodes.Kinds as walk-choice-nodes-kinds
+use Rattle.records.proofs.walker.+arms+assign+body+branch+branches+call+choice+choice_nodes+conditional+else_arm+exact+first+front_list+last+leaving+list+lists+options+record+set+switch+test.Lts-choice_nodes as walk-choice-nodes-lts
 use Rattle.records.proofs.walker.conditional.Reads as walk-conditional
 use Rattle.records.proofs.walker.conditional.Kinds as walk-conditional-kinds
-use Rattle.records.proofs.walker.+arms+assign+body+branch+branches+call+choice+conditional+else_arm+exact+first+front_list+label+last+list+lists+options+record+set+switch+test.Lts-conditional as walk-conditional-lts
+use Rattle.records.proofs.walker.+arms+assign+body+branch+branches+call+choice+choice_nodes+conditional+else_arm+exact+first+front_list+last+leaving+list+lists+options+record+set+switch+test.Lts-conditional as walk-conditional-lts
 use Rattle.records.proofs.walker.else_arm.Reads as walk-else
 use Rattle.records.proofs.walker.else_arm.Kinds as walk-else-kinds
-use Rattle.records.proofs.walker.+arms+assign+body+branch+branches+call+choice+conditional+else_arm+exact+first+front_list+label+last+list+lists+options+record+set+switch+test.Lts-else_arm as walk-else-lts
+use Rattle.records.proofs.walker.+arms+assign+body+branch+branches+call+choice+choice_nodes+conditional+else_arm+exact+first+front_list+last+leaving+list+lists+options+record+set+switch+test.Lts-else_arm as walk-else-lts
 use Rattle.records.proofs.walker.exact.Reads as walk-exact
 use Rattle.records.proofs.walker.exact.Kinds as walk-exact-kinds
-use Rattle.records.proofs.walker.+arms+assign+body+branch+branches+call+choice+conditional+else_arm+exact+first+front_list+label+last+list+lists+options+record+set+switch+test.Lts-exact as walk-exact-lts
+use Rattle.records.proofs.walker.+arms+assign+body+branch+branches+call+choice+choice_nodes+conditional+else_arm+exact+first+front_list+last+leaving+list+lists+options+record+set+switch+test.Lts-exact as walk-exact-lts
 use Rattle.records.proofs.walker.first.Reads as walk-first
 use Rattle.records.proofs.walker.first.Kinds as walk-first-kinds
-use Rattle.records.proofs.walker.+arms+assign+body+branch+branches+call+choice+conditional+else_arm+exact+first+front_list+label+last+list+lists+options+record+set+switch+test.Lts-first as walk-first-lts
+use Rattle.records.proofs.walker.+arms+assign+body+branch+branches+call+choice+choice_nodes+conditional+else_arm+exact+first+front_list+last+leaving+list+lists+options+record+set+switch+test.Lts-first as walk-first-lts
 use Rattle.records.proofs.walker.front_list.Reads as walk-front-list
 use Rattle.records.proofs.walker.front_list.Kinds as walk-front-list-kinds
-use Rattle.records.proofs.walker.+arms+assign+body+branch+branches+call+choice+conditional+else_arm+exact+first+front_list+label+last+list+lists+options+record+set+switch+test.Lts-front_list as walk-front-list-lts
-use Rattle.records.proofs.walker.label.Reads as walk-label
-use Rattle.records.proofs.walker.label.Kinds as walk-label-kinds
-use Rattle.records.proofs.walker.+arms+assign+body+branch+branches+call+choice+conditional+else_arm+exact+first+front_list+label+last+list+lists+options+record+set+switch+test.Lts-label as walk-label-lts
+use Rattle.records.proofs.walker.+arms+assign+body+branch+branches+call+choice+choice_nodes+conditional+else_arm+exact+first+front_list+last+leaving+list+lists+options+record+set+switch+test.Lts-front_list as walk-front-list-lts
 use Rattle.records.proofs.walker.last.Reads as walk-last
 use Rattle.records.proofs.walker.last.Kinds as walk-last-kinds
-use Rattle.records.proofs.walker.+arms+assign+body+branch+branches+call+choice+conditional+else_arm+exact+first+front_list+label+last+list+lists+options+record+set+switch+test.Lts-last as walk-last-lts
+use Rattle.records.proofs.walker.+arms+assign+body+branch+branches+call+choice+choice_nodes+conditional+else_arm+exact+first+front_list+last+leaving+list+lists+options+record+set+switch+test.Lts-last as walk-last-lts
+use Rattle.records.proofs.walker.leaving.Reads as walk-leaving
+use Rattle.records.proofs.walker.leaving.Kinds as walk-leaving-kinds
+use Rattle.records.proofs.walker.+arms+assign+body+branch+branches+call+choice+choice_nodes+conditional+else_arm+exact+first+front_list+last+leaving+list+lists+options+record+set+switch+test.Lts-leaving as walk-leaving-lts
 use Rattle.records.proofs.walker.list.Reads as walk-list
 use Rattle.records.proofs.walker.list.Kinds as walk-list-kinds
-use Rattle.records.proofs.walker.+arms+assign+body+branch+branches+call+choice+conditional+else_arm+exact+first+front_list+label+last+list+lists+options+record+set+switch+test.Lts-list as walk-list-lts
+use Rattle.records.proofs.walker.+arms+assign+body+branch+branches+call+choice+choice_nodes+conditional+else_arm+exact+first+front_list+last+leaving+list+lists+options+record+set+switch+test.Lts-list as walk-list-lts
 use Rattle.records.proofs.walker.lists.Reads as walk-lists
 use Rattle.records.proofs.walker.lists.Kinds as walk-lists-kinds
-use Rattle.records.proofs.walker.+arms+assign+body+branch+branches+call+choice+conditional+else_arm+exact+first+front_list+label+last+list+lists+options+record+set+switch+test.Lts-lists as walk-lists-lts
+use Rattle.records.proofs.walker.+arms+assign+body+branch+branches+call+choice+choice_nodes+conditional+else_arm+exact+first+front_list+last+leaving+list+lists+options+record+set+switch+test.Lts-lists as walk-lists-lts
 use Rattle.records.proofs.walker.options.Reads as walk-options
 use Rattle.records.proofs.walker.options.Kinds as walk-options-kinds
-use Rattle.records.proofs.walker.+arms+assign+body+branch+branches+call+choice+conditional+else_arm+exact+first+front_list+label+last+list+lists+options+record+set+switch+test.Lts-options as walk-options-lts
+use Rattle.records.proofs.walker.+arms+assign+body+branch+branches+call+choice+choice_nodes+conditional+else_arm+exact+first+front_list+last+leaving+list+lists+options+record+set+switch+test.Lts-options as walk-options-lts
 use Rattle.records.proofs.walker.record.Reads as walk-record
 use Rattle.records.proofs.walker.record.Kinds as walk-record-kinds
-use Rattle.records.proofs.walker.+arms+assign+body+branch+branches+call+choice+conditional+else_arm+exact+first+front_list+label+last+list+lists+options+record+set+switch+test.Lts-record as walk-record-lts
+use Rattle.records.proofs.walker.+arms+assign+body+branch+branches+call+choice+choice_nodes+conditional+else_arm+exact+first+front_list+last+leaving+list+lists+options+record+set+switch+test.Lts-record as walk-record-lts
 use Rattle.records.proofs.walker.set.Reads as walk-set
 use Rattle.records.proofs.walker.set.Kinds as walk-set-kinds
-use Rattle.records.proofs.walker.+arms+assign+body+branch+branches+call+choice+conditional+else_arm+exact+first+front_list+label+last+list+lists+options+record+set+switch+test.Lts-set as walk-set-lts
+use Rattle.records.proofs.walker.+arms+assign+body+branch+branches+call+choice+choice_nodes+conditional+else_arm+exact+first+front_list+last+leaving+list+lists+options+record+set+switch+test.Lts-set as walk-set-lts
 use Rattle.records.proofs.walker.switch.Reads as walk-switch
 use Rattle.records.proofs.walker.switch.Kinds as walk-switch-kinds
-use Rattle.records.proofs.walker.+arms+assign+body+branch+branches+call+choice+conditional+else_arm+exact+first+front_list+label+last+list+lists+options+record+set+switch+test.Lts-switch as walk-switch-lts
+use Rattle.records.proofs.walker.+arms+assign+body+branch+branches+call+choice+choice_nodes+conditional+else_arm+exact+first+front_list+last+leaving+list+lists+options+record+set+switch+test.Lts-switch as walk-switch-lts
 use Rattle.records.proofs.walker.test.Reads as walk-test
 use Rattle.records.proofs.walker.test.Kinds as walk-test-kinds
-use Rattle.records.proofs.walker.+arms+assign+body+branch+branches+call+choice+conditional+else_arm+exact+first+front_list+label+last+list+lists+options+record+set+switch+test.Lts-test as walk-test-lts
+use Rattle.records.proofs.walker.+arms+assign+body+branch+branches+call+choice+choice_nodes+conditional+else_arm+exact+first+front_list+last+leaving+list+lists+options+record+set+switch+test.Lts-test as walk-test-lts
 use Rattle.fields.proofs.read_flag.Reads as read-flag-reads
 use Rattle.fields.proofs.read_head.Reads as read-head-reads
 use Rattle.fields.proofs.read_kind.Reads as read-kind-reads
@@ -77,6 +80,10 @@ use Rattle.records.proofs.walker.at_end.Reads as at-end-reads
 use Rattle.records.proofs.walker.piece_to.Reads as piece-to-reads
 use Rattle.std.proofs.num.wrapping_add_usize.Reads as wrapping-add-usize-reads
 use Rattle.records.proofs.walker.note.Reads as note-reads
+use Rattle.records.proofs.walker.leaves_after.Reads as leaves-after-reads
+use Rattle.records.proofs.walker.put_leaves.Reads as put-leaves-reads
+use Rattle.records.proofs.walker.nodes_end.Reads as nodes-end-reads
+use Rattle.records.proofs.walker.read_label.Reads as read-label-reads
 use Rattle.records.proofs.walker.single.Reads as walk-single-reads
 
 abbrev pub μ-walk-arms : Measures 2 walk-arms-kinds.ps ℕ
@@ -100,6 +107,9 @@ abbrev pub μ-walk-call : Measures 2 walk-call-kinds.ps ℕ
 abbrev pub μ-walk-choice : Measures 2 walk-choice-kinds.ps ℕ
 μ-walk-choice κs a = 4 * length (a .0 .now) + 1
 
+abbrev pub μ-walk-choice-nodes : Measures 2 walk-choice-nodes-kinds.ps ℕ
+μ-walk-choice-nodes κs a = 4 * length (a .0 .now) + 1
+
 abbrev pub μ-walk-conditional : Measures 2 walk-conditional-kinds.ps ℕ
 μ-walk-conditional κs a = 4 * length (a .0 .now) + 1
 
@@ -115,11 +125,11 @@ abbrev pub μ-walk-first : Measures 2 walk-first-kinds.ps ℕ
 abbrev pub μ-walk-front-list : Measures 2 walk-front-list-kinds.ps ℕ
 μ-walk-front-list κs a = 4 * length (a .0 .now) + 0
 
-abbrev pub μ-walk-label : Measures 2 walk-label-kinds.ps ℕ
-μ-walk-label κs a = 4 * length (a .0 .now) + 1
-
 abbrev pub μ-walk-last : Measures 2 walk-last-kinds.ps ℕ
 μ-walk-last κs a = 4 * length (a .0 .now) + 1
+
+abbrev pub μ-walk-leaving : Measures 2 walk-leaving-kinds.ps ℕ
+μ-walk-leaving κs a = 4 * length (a .0 .now) + 1
 
 abbrev pub μ-walk-list : Measures 2 walk-list-kinds.ps ℕ
 μ-walk-list κs a = 4 * length (a .0 .now) + 1
@@ -185,6 +195,12 @@ module _ (t : ℕ) where
   abbrev pub walk-choice-below : In 2 walk-choice-kinds.ps
   walk-choice-below = and 2 walk-choice-kinds.ps (falls 2 walk-choice-kinds.ps _<_ μ-walk-choice t) walk-choice.Pre
 
+  abbrev pub walk-choice-nodes-at : In 2 walk-choice-nodes-kinds.ps
+  walk-choice-nodes-at = and 2 walk-choice-nodes-kinds.ps (is 2 walk-choice-nodes-kinds.ps μ-walk-choice-nodes t) walk-choice-nodes.Pre
+
+  abbrev pub walk-choice-nodes-below : In 2 walk-choice-nodes-kinds.ps
+  walk-choice-nodes-below = and 2 walk-choice-nodes-kinds.ps (falls 2 walk-choice-nodes-kinds.ps _<_ μ-walk-choice-nodes t) walk-choice-nodes.Pre
+
   abbrev pub walk-conditional-at : In 2 walk-conditional-kinds.ps
   walk-conditional-at = and 2 walk-conditional-kinds.ps (is 2 walk-conditional-kinds.ps μ-walk-conditional t) walk-conditional.Pre
 
@@ -215,17 +231,17 @@ module _ (t : ℕ) where
   abbrev pub walk-front-list-below : In 2 walk-front-list-kinds.ps
   walk-front-list-below = and 2 walk-front-list-kinds.ps (falls 2 walk-front-list-kinds.ps _<_ μ-walk-front-list t) walk-front-list.Pre
 
-  abbrev pub walk-label-at : In 2 walk-label-kinds.ps
-  walk-label-at = and 2 walk-label-kinds.ps (is 2 walk-label-kinds.ps μ-walk-label t) walk-label.Pre
-
-  abbrev pub walk-label-below : In 2 walk-label-kinds.ps
-  walk-label-below = and 2 walk-label-kinds.ps (falls 2 walk-label-kinds.ps _<_ μ-walk-label t) walk-label.Pre
-
   abbrev pub walk-last-at : In 2 walk-last-kinds.ps
   walk-last-at = and 2 walk-last-kinds.ps (is 2 walk-last-kinds.ps μ-walk-last t) walk-last.Pre
 
   abbrev pub walk-last-below : In 2 walk-last-kinds.ps
   walk-last-below = and 2 walk-last-kinds.ps (falls 2 walk-last-kinds.ps _<_ μ-walk-last t) walk-last.Pre
+
+  abbrev pub walk-leaving-at : In 2 walk-leaving-kinds.ps
+  walk-leaving-at = and 2 walk-leaving-kinds.ps (is 2 walk-leaving-kinds.ps μ-walk-leaving t) walk-leaving.Pre
+
+  abbrev pub walk-leaving-below : In 2 walk-leaving-kinds.ps
+  walk-leaving-below = and 2 walk-leaving-kinds.ps (falls 2 walk-leaving-kinds.ps _<_ μ-walk-leaving t) walk-leaving.Pre
 
   abbrev pub walk-list-at : In 2 walk-list-kinds.ps
   walk-list-at = and 2 walk-list-kinds.ps (is 2 walk-list-kinds.ps μ-walk-list t) walk-list.Pre
@@ -288,7 +304,10 @@ module _ (t : ℕ) where
   walk-call-uses = (read-name-reads.Asked, read-name-reads.Learnt, walk-list-below, walk-list.Post)
 
   abbrev pub walk-choice-uses : walk-choice-lts.Claims
-  walk-choice-uses = (read-flag-reads.Asked, read-flag-reads.Learnt, walk-options-below, walk-options.Post, walk-label-below, walk-label.Post)
+  walk-choice-uses = (read-label-reads.Asked, read-label-reads.Learnt, walk-options-below, walk-options.Post, put-leaves-reads.Asked, put-leaves-reads.Learnt)
+
+  abbrev pub walk-choice-nodes-uses : walk-choice-nodes-lts.Claims
+  walk-choice-nodes-uses = (read-list-reads.Asked, read-list-reads.Learnt, walk-leaving-below, walk-leaving.Post, nodes-end-reads.Asked, nodes-end-reads.Learnt)
 
   abbrev pub walk-conditional-uses : walk-conditional-lts.Claims
   walk-conditional-uses = (walk-first-below, walk-first.Post, walk-arms-below, walk-arms.Post)
@@ -305,11 +324,11 @@ module _ (t : ℕ) where
   abbrev pub walk-front-list-uses : walk-front-list-lts.Claims
   walk-front-list-uses = (read-list-reads.Asked, read-list-reads.Learnt, walk-list-below, walk-list.Post, piece-to-reads.Asked, piece-to-reads.Learnt)
 
-  abbrev pub walk-label-uses : walk-label-lts.Claims
-  walk-label-uses = (read-name-reads.Asked, read-name-reads.Learnt, walk-options-below, walk-options.Post)
-
   abbrev pub walk-last-uses : walk-last-lts.Claims
   walk-last-uses = (read-list-reads.Asked, read-list-reads.Learnt, walk-list-below, walk-list.Post, at-end-reads.Asked, at-end-reads.Learnt)
+
+  abbrev pub walk-leaving-uses : walk-leaving-lts.Claims
+  walk-leaving-uses = (read-head-reads.Asked, read-head-reads.Learnt, leaves-after-reads.Asked, leaves-after-reads.Learnt, is-bare-reads.Asked, is-bare-reads.Learnt, wrapping-add-usize-reads.Asked, wrapping-add-usize-reads.Learnt, walk-record-below, walk-record.Post)
 
   abbrev pub walk-list-uses : walk-list-lts.Claims
   walk-list-uses = (read-head-reads.Asked, read-head-reads.Learnt, is-bare-reads.Asked, is-bare-reads.Learnt, wrapping-add-usize-reads.Asked, wrapping-add-usize-reads.Learnt, walk-record-below, walk-record.Post)
@@ -318,7 +337,7 @@ module _ (t : ℕ) where
   walk-lists-uses = (read-list-reads.Asked, read-list-reads.Learnt, walk-list-below, walk-list.Post)
 
   abbrev pub walk-options-uses : walk-options-lts.Claims
-  walk-options-uses = (read-list-reads.Asked, read-list-reads.Learnt, walk-list-below, walk-list.Post, walk-last-below, walk-last.Post)
+  walk-options-uses = (read-list-reads.Asked, read-list-reads.Learnt, walk-list-below, walk-list.Post, walk-choice-nodes-below, walk-choice-nodes.Post)
 
   abbrev pub walk-record-uses : walk-record-lts.Claims
   walk-record-uses = (read-kind-reads.Asked, read-kind-reads.Learnt, note-reads.Asked, note-reads.Learnt, walk-body-below, walk-body.Post)

@@ -2,11 +2,12 @@
 use Prim.Native.Nat.{ℕ}
 use native.Mathlib.Omega.{arith}
 use Rattle.records.specs.Work.{st, keeping}
-use Rattle.records.proofs.Walking.{record-none, record-deep, record-on}
+use Rattle.records.proofs.Walking.{record-none, record-deep}
+use Rattle.records.proofs.Choices.{record-noted}
 use borrow.Author.Needs.{needs}
 use Rattle.records.proofs.walker.record.Reads as walk-record
-use Rattle.records.proofs.walker.+arms+assign+body+branch+branches+call+choice+conditional+else_arm+exact+first+front_list+label+last+list+lists+options+record+set+switch+test.Lts-record as lts
-use Rattle.records.proofs.walker.+arms+assign+body+branch+branches+call+choice+conditional+else_arm+exact+first+front_list+label+last+list+lists+options+record+set+switch+test.Proof.Base.{walk-record-at, walk-record-uses}
+use Rattle.records.proofs.walker.+arms+assign+body+branch+branches+call+choice+choice_nodes+conditional+else_arm+exact+first+front_list+last+leaving+list+lists+options+record+set+switch+test.Lts-record as lts
+use Rattle.records.proofs.walker.+arms+assign+body+branch+branches+call+choice+choice_nodes+conditional+else_arm+exact+first+front_list+last+leaving+list+lists+options+record+set+switch+test.Proof.Base.{walk-record-at, walk-record-uses}
 
 module _ (t : ℕ) where
   unknown : lts.Need-returns (walk-record-uses t) (walk-record-at t) walk-record.Post
@@ -35,7 +36,7 @@ module _ (t : ℕ) where
       let shape = c .before .before .before .before .before .before .before .before .before .before .shape in
       let if1 = c .before .before .before .before .before .before .before .before .if1 in
       let note = c .before .before .before .before .before .before .note in
-      rw (record-on keeping (a .base) (st (a .out .now) (a .n)) (a .left) (a .role) (a .kind) (a .s .now) (shape .given .0 .0) (read-kind .ensures) (shape .given .1) (if1 .left) (note .ensures))
+      rw (record-noted (a .base) (a .out .now) (a .n) (a .left) (a .role) (a .kind) (a .s .now) (shape .given .0 .0) (read-kind .ensures) (shape .given .1) (if1 .left) _ _ (note .ensures))
       (c .before .before .body .ensures)
 
   pub ok : {M : Type 1} → lts.Closed (walk-record-uses t) (walk-record-at t) walk-record.Post M
