@@ -8,4 +8,5 @@ pub mod PiecesRead
 pub mod Bare
 pub mod Places
 pub mod Keeping
+pub mod Clearing
 pub mod Moved
