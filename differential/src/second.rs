@@ -59,7 +59,7 @@ pub fn refusal(file: &[u8]) -> Option<u8> {
     reader::read(file).err()
 }
 
-/// What reading a file gives: why it is not readable, how many records were met, and the numbers kept of them.
+/// What reading a file meets: why it is not readable, how many records were met up to there, and the numbers kept of them.
 #[derive(Debug, Clone, PartialEq, Eq)]
 pub struct Kept {
     pub refusal: Option<u8>,

@@ -147,7 +147,7 @@ fn the_numbers_kept_have_place_sort_branch_and_label() {
 }
 
 #[test]
-fn a_record_with_a_refused_payload_is_kept() {
+fn a_record_with_a_refused_payload_is_met() {
     let root = [record(15, &name(b"a")), record(13, &[1]), record(15, &[0])].concat();
     let kept = second::kept(&file(&[], &[], &root, &[]));
     assert_eq!(kept.numbers, [(9 + 32) << 20, (1 << 20) + 7]);

@@ -10,14 +10,13 @@ use lib.ListN.{length, getD, drop}
 use borrow.Author.Tests.{ltb-true, ltb-false, lt-ltb, le-ltb}
 use Rattle.fields.specs.Bytes.{pick}
 use Rattle.records.specs.Numbers.{keptOf}
-use Rattle.records.specs.Buffers.{overlay, fill}
+use Rattle.records.specs.Buffers.{overlay, fill, cleared}
 use Rattle.story.specs.declared.Opened.{Opened}
 use Rattle.story.specs.declared.Opened.the-variants as opened
 use Rattle.story.specs.declared.StoryRead.{StoryRead}
 use Rattle.story.specs.Story.{Story, storyItems}
 use Rattle.story.specs.File.{startAt, readOf, storyIn}
 use Rattle.story.specs.Results as read
-use Rattle.story.proofs.Files.{kept-read}
 use Rattle.symbols.specs.Numbers.{indexRoom}
 use Rattle.symbols.specs.Placed.{placed, indexOf}
 use Rattle.rules.specs.Reader.{Readable, storyAt, storyOf}
@@ -293,6 +292,10 @@ module _ (file items : List ℕ) {r : StoryRead} {items′ : List ℕ} (p : read
   read-refuses n =
       (λ e. read-unreadable n (readOf file) refl (sym (p .answer) ∙ e), λ u. let q = unreadable-exactly file n .1 u in p .answer ∙ rw (q .1, q .2))
 
+  read-clears : (n : ℕ) → Unreadable file n → items′ ≡ cleared items
+  unfolding read.bufferOf
+  read-clears n u = p .written ∙ rw (unreadable-exactly file n .1 u .1)
+
   module _ (readable : Readable file) where
     read-sections : read.readResultOf r
         ≡ read.sections (start file 1) (start file 2) (start file 3) (length file - 20) (length (keptOf (storyItems (storyOf file)))) (length (storyItems (storyOf file)))
@@ -300,14 +303,14 @@ module _ (file items : List ℕ) {r : StoryRead} {items′ : List ℕ} (p : read
     read-sections = p .answer ∙ rw (readable .told, sections-read file (readable .sections) (readable .told))
 
     read-keeps : items′ ≡ fill 0 (keptOf (storyItems (storyOf file))) items
-    unfolding storyOf storyAt
-    read-keeps = p .written ∙ rw (readable .told, kept-read file (readable .sections) (readable .told))
+    unfolding read.bufferOf storyOf storyAt
+    read-keeps = p .written ∙ rw (readable .told)
 
 pub read-claim : ReadClaim read.ReadAs
 read-claim = record {
   refuses = λ file items r items′ p. read-refuses file items p;
   reads = λ file items r items′ p none. read-sections file items p (readable-exactly file .1 none);
-  keeps = λ file items r items′ p. p .written;
+  refusal-clears = λ file items r items′ p. read-clears file items p;
   keeps-story = λ file items r items′ p none. read-keeps file items p (readable-exactly file .1 none);
 }
 

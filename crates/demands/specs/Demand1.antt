@@ -7,7 +7,7 @@ use mathlib.Core.List.{List}
 use mathlib.Core.Logic.{_↔_}
 use lib.ListN.{length, getD, drop}
 use Rattle.records.specs.Numbers.{keptOf}
-use Rattle.records.specs.Buffers.{overlay, fill}
+use Rattle.records.specs.Buffers.{overlay, fill, cleared}
 use Rattle.story.specs.declared.StoryRead.{StoryRead}
 use Rattle.story.specs.Story.{storyItems}
 use Rattle.story.specs.Results as read
@@ -29,14 +29,14 @@ abbrev pub Reads : Type 1
 Reads = List ℕ → List ℕ → StoryRead → List ℕ → Type 0
 
 -- reading: refusals 1 to 6, else the sections that the trailer has, how many items of the story are not plain, and how many there are.
--- The buffer has the numbers of the records that are met and are not plain, as far as it reaches, and is else as it was: of a readable file
--- those of all items that are not plain.
+-- A refusal leaves 0 in every slot of the buffer; else it has the numbers of all items that are not plain, as far as it reaches, and is else
+-- as it was.
 pub record ReadClaim (Read : Reads) : Type 0 where
   pub refuses : (file items : List ℕ) (r : StoryRead) (items′ : List ℕ) → Read file items r items′ → (n : ℕ) → (read.readResultOf r ≡ read.refused n) ↔ Unreadable file n
   pub reads : (file items : List ℕ) (r : StoryRead) (items′ : List ℕ) → Read file items r items′ → NoneApplies file
       → read.readResultOf r
       ≡ read.sections (start file 1) (start file 2) (start file 3) (length file - 20) (length (keptOf (storyItems (storyOf file)))) (length (storyItems (storyOf file)))
-  pub keeps : (file items : List ℕ) (r : StoryRead) (items′ : List ℕ) → Read file items r items′ → items′ ≡ fill 0 (read.keptRead file) items
+  pub refusal-clears : (file items : List ℕ) (r : StoryRead) (items′ : List ℕ) → Read file items r items′ → (n : ℕ) → Unreadable file n → items′ ≡ cleared items
   pub keeps-story : (file items : List ℕ) (r : StoryRead) (items′ : List ℕ) → Read file items r items′ → NoneApplies file
       → items′ ≡ fill 0 (keptOf (storyItems (storyOf file))) items
 

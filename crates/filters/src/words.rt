@@ -1,9 +1,9 @@
 // A filter over words in a lent buffer: a word that was added has a 1 at its slot, and a 0 there says that it was not.
 ghost use mathlib.Core.Path.{_≡_};
-ghost use lib.ListN.{length, replicate};
 ghost use Rattle.story.specs.Flows.{countedIn};
 ghost use Rattle.story.specs.Story.{words};
 ghost use Rattle.records.specs.Numbers.{itemIn};
+ghost use Rattle.records.specs.Buffers.{cleared};
 ghost use Rattle.filters.specs.Words.{added, addedAll, lacks, sortNamed};
 use items::items::item_name;
 use items::items::sort_in;
@@ -35,7 +35,7 @@ pub fn lacks_word(filter: &[u8], word: &[u8]) -> bool
 
 // Empties the filter.
 pub fn clear_filter(filter: &mut [u8])
-    ensures { λ r. ⌜ now (filter .exit) ≡ replicate (length (now (filter .entry))) 0 ⌝ }
+    ensures { λ r. ⌜ now (filter .exit) ≡ cleared (now (filter .entry)) ⌝ }
 {
     let mut i = 0;
     while i < filter.len() {

@@ -18,7 +18,7 @@ use Rattle.records.specs.Work.{Ran, ended, broke, St, st, run, counts, k
 
 -- 1. Numbers in a buffer from slot k on
 
-pub fill-none : (k : ℕ) (out : List ℕ) → fill k [] out ≡ out
+fill-none : (k : ℕ) (out : List ℕ) → fill k [] out ≡ out
 unfolding fill
 fill-none k out = rw (add-zero k, take-append-drop k out) (take-all (length out) out (omega arith))
 

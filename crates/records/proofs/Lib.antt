@@ -10,4 +10,5 @@ pub mod Places
 pub mod Keeping
 pub mod Leaving
 pub mod Choices
+pub mod Clearing
 pub mod Moved

@@ -1,5 +1,5 @@
 -- What holds of the kept numbers of a file that `readOf` opens. Assumes nothing.
-use mathlib.Core.Path.{_≡_, refl, ap}
+use mathlib.Core.Path.{_≡_, refl}
 use mathlib.Core.List.{List}
 use Prim.Native.Nat.{ℕ, _+_, _*_, _≤_}
 use lib.ListN.{length}
@@ -8,11 +8,9 @@ use Rattle.records.specs.Trace.{well, ends}
 use Rattle.story.specs.declared.Sections.{Sections}
 use Rattle.story.specs.declared.Opened.the-variants as opened
 use Rattle.story.specs.File.{readOf, sectionsRead, storyIn, InOrder}
-use Rattle.story.proofs.Opening.{trailer-well, sections-well}
-use Rattle.story.proofs.StoryItems.{story-items}
+use Rattle.story.proofs.Opening.{sections-well}
 use Rattle.story.proofs.Places.{ItemBefore}
 use Rattle.story.proofs.Readable.{readable}
-use Rattle.story.specs.Results.{keptAt, keptRead}
 use Rattle.records.specs.Numbers.{keptOf, between}
 use Rattle.story.specs.Story.{flowItems, storyItems}
 use Rattle.story.proofs.Weights
@@ -41,8 +39,3 @@ module _ (file : List ℕ) (c : Sections) (e : readOf file ≡ opened.At c) wher
   -- the others are those of the flows
   pub flows-are-run : (from to : ℕ) → c .flows ≤ from → between from to (keptOf (storyItems (storyIn c file))) ≡ between from to (keptOf (each flowItems (storyIn c file .flows)))
   flows-are-run = BodyRuns.flows-run c file in-order (readable file c refl e .flows)
-
-  -- the numbers kept in reading are those of the story's items
-  pub kept-read : keptRead file ≡ keptOf (storyItems (storyIn c file))
-  unfolding keptAt keptRead
-  kept-read = rw (trailer-well file c e) (ap keptOf (story-items c file good))

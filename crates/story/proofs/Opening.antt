@@ -73,7 +73,7 @@ module _ (c : Sections) (s : List ℕ) where
   unfolding sectionsRead
   sections-end = simp (ends-then, ends-shift)
 
--- a readable file's trailer is good, and its sections end well
+-- a readable file's sections end well
 module _ (file : List ℕ) (c : Sections) (e : readOf file ≡ opened.At c) where
   ended-at : (x : Ending) (d : Sections) → readEnded x (opened.At d) ≡ opened.At c → (x ≡ well) × (d ≡ c)
   unfolding readEnded
@@ -84,15 +84,6 @@ module _ (file : List ℕ) (c : Sections) (e : readOf file ≡ opened.At c) wher
   unfolding readAt
   opened-at (opened.At d) q = let h = ended-at (ends (sectionsRead d file)) d q in rw (← h .1) (h .0)
   opened-at (opened.Refused r) q = let z : _≡_ {A = ℕ} 0 1 = cc in absurd (omega arith)
-
-  at-first : (x : Opened) → readAt x file ≡ opened.At c → x ≡ opened.At c
-  unfolding readAt
-  at-first (opened.At d) q = rw (ended-at (ends (sectionsRead d file)) d q .1)
-  at-first (opened.Refused r) q = q
-
-  pub trailer-well : openedOf file ≡ opened.At c
-  unfolding readOf
-  trailer-well = at-first (openedOf file) e
 
   pub sections-well : ends (sectionsRead c file) ≡ well
   unfolding readOf

@@ -14,9 +14,8 @@ use Rattle.story.specs.declared.StoryRead.{StoryRead}
 use Rattle.story.specs.declared.StoryRead.the-variants as read
 use Rattle.story.specs.Story.{storyItems}
 use Rattle.story.specs.File.{readOf, storyIn}
-use Rattle.story.specs.Results.{answerOf, ReadAs}
+use Rattle.story.specs.Results.{answerOf, bufferOf, ReadAs}
 use Rattle.story.proofs.Opening.{read-answer}
-use Rattle.story.proofs.Files.{kept-read}
 
 -- the file is readable with these sections, so many of its items are kept, and the buffer has their numbers
 pub record ReadWell (file before : List ℕ) (c : Sections) (kept all : ℕ) (after : List ℕ) : Type 0 where
@@ -44,6 +43,7 @@ module _ (file : List ℕ) where
 
     -- readable
     pub read-well : {c : Sections} {k m : ℕ} → r ≡ read.At c k m → ReadWell file before c k m after
-    read-well {c} q =
+    unfolding bufferOf
+    read-well q =
         let a = answered-at (readOf file) (sym q ∙ read-answer r file (promise .answer)) in
-        record { opens = a .0; number = a .1; met = a .2; written = promise .written ∙ rw (kept-read file c (a .0)) }
+        record { opens = a .0; number = a .1; met = a .2; written = promise .written ∙ rw (a .0) }

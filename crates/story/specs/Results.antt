@@ -1,19 +1,17 @@
--- What reading a file answers, in 01's numbers, and what it keeps.
+-- What reading a file answers, in 01's numbers, and what it leaves in the buffer.
 use Prim.Native.Nat.{ℕ}
 use mathlib.Core.Path.{_≡_}
-use mathlib.Core.List.{List, [], map}
+use mathlib.Core.List.{List}
 use lib.ListN.{length}
 use Rattle.fields.specs.Refusals.{refusalNumber}
-use Rattle.records.specs.Trace.{met}
-use Rattle.records.specs.Items.{itemOf}
 use Rattle.records.specs.Numbers.{keptOf}
-use Rattle.records.specs.Buffers.{fill}
+use Rattle.records.specs.Buffers.{fill, cleared}
 use Rattle.story.specs.declared.Opened.{Opened}
 use Rattle.story.specs.declared.Opened.the-variants as opened
 use Rattle.story.specs.declared.StoryRead.{StoryRead}
 use Rattle.story.specs.declared.StoryRead.the-variants as read
 use Rattle.story.specs.Story.{storyItems}
-use Rattle.story.specs.File.{sectionsRead, openedOf, readOf, storyIn}
+use Rattle.story.specs.File.{readOf, storyIn}
 
 -- a refusal by its number; or the starts of externals, root and flows, the place of the trailer, how many records are kept, and how many there are
 pub data ReadResult : Type 0 where
@@ -34,17 +32,13 @@ answerOf (opened.At c) file = read.At c (length (keptOf (storyItems (storyIn c f
 unfoldable pub readingOf : List ℕ → ReadResult
 readingOf file = readResultOf (answerOf (readOf file) file)
 
--- the numbers of the records that are met up to the end or the refusal, and are not plain; none where the trailer is refused
-unfoldable pub keptAt : Opened → List ℕ → List ℕ
-keptAt (opened.Refused r) file = []
-keptAt (opened.At c) file = keptOf (map itemOf (met 0 (sectionsRead c file)))
+-- THE BUFFER after reading a file that is opened so: of a readable file the numbers of all items of the story that are not plain, from slot 0
+-- on as far as it reaches, and else as it was; of a refused one 0 in every slot, so that nothing of it is left there
+unfoldable pub bufferOf : Opened → List ℕ → List ℕ → List ℕ
+bufferOf (opened.Refused r) file before = cleared before
+bufferOf (opened.At c) file before = fill 0 (keptOf (storyItems (storyIn c file))) before
 
--- THE NUMBERS KEPT in reading a file
-unfoldable pub keptRead : List ℕ → List ℕ
-keptRead file = keptAt (openedOf file) file
-
--- THE PROMISE of reading a file: its answer has those numbers; and the buffer has the numbers kept, from slot 0 on as far as it reaches,
--- and is else as it was. Of a readable file they are those of all items of the story that are not plain.
+-- THE PROMISE of reading a file: its answer has those numbers, and the buffer is that one
 pub record ReadAs (file before : List ℕ) (r : StoryRead) (after : List ℕ) : Type 0 where
   pub answer : readResultOf r ≡ readingOf file
-  pub written : after ≡ fill 0 (keptRead file) before
+  pub written : after ≡ bufferOf (readOf file) file before

@@ -1,5 +1,8 @@
 // The story file: trailer and sections, the headings of flows and stitches, and the reading pass over a whole file.
+ghost use mathlib.Core.Path.{_≡_};
 ghost use Rattle.records.specs.Work.{run, st, keeping, Told};
+ghost use Rattle.records.specs.Buffers.{cleared};
+ghost use Rattle.story.specs.declared.StoryRead.the-variants.{Refused};
 ghost use Rattle.story.specs.File.{sectionsRead, InOrder};
 ghost use Rattle.story.specs.Results.{ReadAs};
 
@@ -79,17 +82,37 @@ fn read_sections(file: &[u8], c: Sections, out: &mut [u32]) -> Walk
     read_flows(&file[flows..end], flows, out, m)
 }
 
-// READING a whole file, once: refusals 1 to 6, or its sections, with a number in the buffer for each record that is not plain.
+// Puts 0 into every slot.
+fn clear(items: &mut [u32])
+    ensures { λ _. ⌜ now (items .exit) ≡ cleared (now (items .entry)) ⌝ }
+{
+    let mut i = 0;
+    while i < items.len() {
+        items[i] = 0;
+        i += 1;
+    }
+}
+
+// The refusal of a file, and nothing of the file left in the buffer.
+fn refused(r: Refusal, items: &mut [u32]) -> StoryRead
+    ensures { λ a. ⌜ (a ≡ Refused r) × (now (items .exit) ≡ cleared (now (items .entry))) ⌝ }
+{
+    clear(items);
+    StoryRead::Refused(r)
+}
+
+// READING a whole file, once: refusals 1 to 6, which leave the buffer at 0; or its sections, with a number in the buffer for each record that
+// is not plain.
 pub fn read(file: &[u8], items: &mut [u32]) -> StoryRead
     ensures { λ r. ⌜ ReadAs (now (file .entry)) (now (items .entry)) r (now (items .exit)) ⌝ }
 {
     let opened = read_trailer(file);
     match opened {
-        Opened::Refused(r) => StoryRead::Refused(r),
+        Opened::Refused(r) => refused(r, items),
         Opened::At(c) => {
             let w = read_sections(file, c, items);
             match w {
-                Walk::Refused(r) => StoryRead::Refused(r),
+                Walk::Refused(r) => refused(r, items),
                 Walk::Done(n) => StoryRead::At(c, n % MET, n / MET),
             }
         }

@@ -40,7 +40,7 @@ pub fn files() -> Vec<Vec<u8>> {
     files
 }
 
-/// What the program writes for a file: a line for each length of the lent numbers.
+/// What the program writes for a file: a line for each length of the lent numbers, which are all 0 after a refused one.
 fn lines(file: &[u8]) -> Vec<u8> {
     let second::Kept {
         refusal,
@@ -51,7 +51,11 @@ fn lines(file: &[u8]) -> Vec<u8> {
         None => format!("read {} {met}", numbers.len()),
         Some(refusal) => format!("refused {refusal}"),
     };
-    let line = |lent| format!("{answer} {}\n", checksum(&filled(lent, &numbers)));
+    let left = |lent| match refusal {
+        None => filled(lent, &numbers),
+        Some(_) => vec![0; lent],
+    };
+    let line = |lent| format!("{answer} {}\n", checksum(&left(lent)));
     kept::LENT.map(line).concat().into_bytes()
 }
 
