@@ -1,7 +1,6 @@
 -- What the proofs of several functions use, and the laws that other crates cite.
 pub mod Parts
 pub mod Sorts
-pub mod Endings
 pub mod Numbered
 pub mod Searching
 pub mod RisingPlaces

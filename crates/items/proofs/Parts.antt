@@ -1,27 +1,16 @@
--- Parts of a file as the code takes them: what is left behind an offset, a payload, a list, the body of a choice. Assumes nothing.
-use mathlib.Core.Path.{_≡_, sym, _∙_}
-use mathlib.Core.List.{List, []}
-use Prim.Native.Nat.{ℕ, _-_, _≤_}
-use lib.ListN.{length, take, drop, drop-of-length-le}
-use lib.Seq.{take-nil, drop-length}
+-- The payload of a record as the code takes it. Assumes nothing.
+use mathlib.Core.Path.{_≡_}
+use mathlib.Core.List.{List}
+use Prim.Native.Nat.{ℕ, _-_}
+use lib.ListN.{length, take, drop}
 use Rattle.fields.specs.declared.Refusal.{Refusal}
-use Rattle.fields.specs.declared.Reach.{Reach}
-use Rattle.fields.specs.declared.Reach.the-variants as reach
 use Rattle.fields.specs.declared.HeadRead.{HeadRead}
 use Rattle.fields.specs.declared.HeadRead.the-variants as head-read
-use Rattle.fields.specs.Bytes.{headOf, headRead, listOf, spanReach}
-use Rattle.fields.proofs.Laws.{head-to, head-refused, span-to, span-refused}
-use Rattle.records.specs.Items.{spanned, past}
+use Rattle.fields.specs.Bytes.{headOf, headRead}
+use Rattle.fields.proofs.Laws.{head-to, head-refused}
 use Rattle.records.specs.Numbers.{payloadBehind, payloadAt}
+use Rattle.records.proofs.Parts.{part-none}
 
--- the part behind the last byte
-pub part-none : (s : List ℕ) → take (length s - length s) (drop (length s) s) ≡ []
-part-none s = rw (drop-length s) (take-nil (length s - length s))
-
-pub part-past : (s : List ℕ) (at : ℕ) → length s ≤ at → take (length s - length s) (drop (length s) s) ≡ drop at s
-part-past s at h = part-none s ∙ sym (drop-of-length-le s h)
-
--- a payload
 module _ (file : List ℕ) (place : ℕ) {s : List ℕ} (there : s ≡ drop place file) {h : HeadRead} (read : h ≡ headRead (headOf s)) where
   pub payload-none : (x : Refusal) → h ≡ head-read.Refused x → take (length s - length s) (drop (length s) s) ≡ payloadAt file place
   unfolding payloadAt payloadBehind
@@ -30,25 +19,3 @@ module _ (file : List ℕ) (place : ℕ) {s : List ℕ} (there : s ≡ drop plac
   pub payload-whole : (kind to : ℕ) → h ≡ head-read.To kind to → take (to - 5) (drop 5 s) ≡ payloadAt file place
   unfolding payloadAt payloadBehind
   payload-whole kind to e = rw (← there, head-to (headOf s) read kind to e .0)
-
--- a list, and what follows it
-module _ (s : List ℕ) {l : Reach} (read : l ≡ spanReach 4 (listOf s)) where
-  module _ (x : Refusal) (e : l ≡ reach.Refused x) where
-    pub inside-none : take (length s - length s) (drop (length s) s) ≡ spanned (listOf s) s
-    unfolding spanned
-    inside-none = rw (span-refused 4 (listOf s) read x e) (part-none s)
-
-    pub behind-none : take (length s - length s) (drop (length s) s) ≡ past (listOf s) s
-    unfolding past
-    behind-none = rw (span-refused 4 (listOf s) read x e) (part-none s)
-
-  module _ (to : ℕ) (e : l ≡ reach.To to) where
-    pub inside-whole : take (to - 4) (drop 4 s) ≡ spanned (listOf s) s
-    unfolding spanned
-    inside-whole = rw (span-to 4 (listOf s) read to e .0)
-
-    pub behind-whole : {rest : List ℕ} → rest ≡ drop to s → rest ≡ past (listOf s) s
-    unfolding past
-    behind-whole q =
-        let h = span-to 4 (listOf s) read to e in
-        rw (h .0, h .1) q

@@ -9,9 +9,9 @@ use lib.Seq.{drop-drop}
 use Rattle.fields.specs.Bytes.{pick}
 use Rattle.names.specs.Words.{Bytes}
 use Rattle.names.specs.Counted.{nameAt}
-use Rattle.records.specs.Items.{Kind, plain, temp, choice, code, nameIn, sameKind, nameStart, nameless, recordName, leaves}
-use Rattle.records.specs.Numbers.{placeIn, sorts, sortIn, branchIn, labelsIn, payloadAt, itemIn}
-use Rattle.items.proofs.Parts.{part-none}
+use Rattle.records.specs.Items.{Kind, plain, temp, choice, code, nameIn, sameKind, nameStart, nameless, recordName}
+use Rattle.records.specs.Numbers.{placeIn, sorts, sortIn, branchIn, labelsIn, leavesIn, payloadAt, itemIn}
+use Rattle.records.proofs.Parts.{part-none}
 
 -- 1. The table of sorts
 
@@ -62,7 +62,7 @@ module _ (file : List ℕ) (x : ℕ) where
   unfolding itemIn
   item-branch = refl
 
-  pub item-leaves : itemIn file x .what .leaves ≡ leaves (itemIn file x .what .kind) (payloadAt file (placeIn x))
+  pub item-leaves : itemIn file x .what .leaves ≡ leavesIn x
   unfolding itemIn
   item-leaves = refl
 

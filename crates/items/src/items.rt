@@ -2,16 +2,12 @@
 ghost use mathlib.Core.Path.{_≡_};
 ghost use mathlib.Core.List.{List};
 ghost use Prim.Native.Nat.{ℕ, _<_};
-ghost use lib.ListN.{getD, drop};
-ghost use lib.Dec.{eqb};
-ghost use Rattle.fields.specs.Bytes.{pick, listOf};
-ghost use Rattle.records.specs.Items.{Kind, code, nameStart, nameless, unlabelled, spanned, past, choiceBody, endWithDivert, leaving};
+ghost use Rattle.records.specs.Items.{Kind, code, nameStart, nameless};
 ghost use Rattle.records.specs.Numbers.{placeIn, payloadAt, itemIn};
 use fields::HeadRead;
-use fields::Reach;
 use fields::read_head;
-use fields::read_list;
 use names::name_at;
+use records::leaving::tail;
 use records::sorts::CHOICE;
 use records::sorts::GATHER;
 use records::sorts::PLAIN;
@@ -47,27 +43,14 @@ pub fn in_branch(item: u32) -> bool
 pub fn is_labelled(item: u32) -> bool
     ensures { λ r. ⌜ ((file : List ℕ) → r ≡ itemIn file item .what .labels) ⌝ }
 {
-    item / 1048576 / 32 == 1
+    item / 1048576 / 32 % 2 == 1
 }
 
-// The byte at an offset, or 0 past the end.
-fn byte_at(s: &[u8], at: usize) -> u8
-    ensures { λ r. ⌜ r ≡ getD (now (s .entry)) at 0 ⌝ }
+// The item is a choice whose body's last node that is no Newline leaves.
+pub fn choice_has_explicit_divert(item: u32) -> bool
+    ensures { λ r. ⌜ ((file : List ℕ) → r ≡ itemIn file item .what .leaves) ⌝ }
 {
-    if s.len() <= at {
-        return 0;
-    }
-    s[at]
-}
-
-// What follows the first bytes.
-fn tail<'a>(s: &'a [u8], at: usize) -> &'a [u8]
-    ensures { λ r. ⌜ now r ≡ drop at (now (s .entry)) ⌝ }
-{
-    if s.len() <= at {
-        return &s[s.len()..];
-    }
-    &s[at..]
+    item / 1048576 / 64 == 1
 }
 
 // The payload of the record whose kind byte stands at the place.
@@ -121,84 +104,4 @@ pub fn named_at(item: u32) -> usize
     ensures { λ r. ⌜ ((file : List ℕ) → r ≡ itemIn file item .named) × (r < 1048582) ⌝ }
 {
     place_in(item) + (5 + name_start(sort_in(item)))
-}
-
-// The last record so far that is no Newline leaves, with one record more.
-fn leaves_after(kind: u8, sofar: bool) -> bool
-    ensures { λ r. ⌜ r ≡ pick (eqb kind 1) sofar (leaving kind) ⌝ }
-{
-    match kind {
-        1 => sofar,
-        3 => true,
-        6 => true,
-        7 => true,
-        11 => true,
-        12 => true,
-        _ => false,
-    }
-}
-
-// The last node that is no Newline is a divert, a tunnel's return or a return.
-fn nodes_end_with_divert(s: &[u8]) -> bool
-    ensures { λ r. ⌜ r ≡ endWithDivert (now (s .entry)) ⌝ }
-{
-    let mut rest = s;
-    let mut leaves = false;
-    loop {
-        let head = read_head(rest);
-        let HeadRead::To(kind, e) = head else {
-            return leaves;
-        };
-        leaves = leaves_after(kind, leaves);
-        rest = &rest[e..];
-    }
-}
-
-// The list at the front.
-fn list_inside<'a>(s: &'a [u8]) -> &'a [u8]
-    ensures { λ r. ⌜ now r ≡ spanned (listOf (now (s .entry))) (now (s .entry)) ⌝ }
-{
-    let reach = read_list(s);
-    let Reach::To(e) = reach else {
-        return &s[s.len()..];
-    };
-    &s[4..e]
-}
-
-// What follows the list at the front.
-fn list_behind<'a>(s: &'a [u8]) -> &'a [u8]
-    ensures { λ r. ⌜ now r ≡ past (listOf (now (s .entry))) (now (s .entry)) ⌝ }
-{
-    let reach = read_list(s);
-    let Reach::To(e) = reach else {
-        return &s[s.len()..];
-    };
-    &s[e..]
-}
-
-// What follows a choice's flag and label.
-fn label_behind<'a>(payload: &'a [u8]) -> &'a [u8]
-    ensures { λ r. ⌜ now r ≡ unlabelled (now (payload .entry)) ⌝ }
-{
-    if is_flagged(payload) {
-        return tail(payload, 2 + (byte_at(payload, 1) as usize));
-    }
-    tail(payload, 1)
-}
-
-// The body of a choice: its second list.
-fn choice_body<'a>(payload: &'a [u8]) -> &'a [u8]
-    ensures { λ r. ⌜ now r ≡ choiceBody (now (payload .entry)) ⌝ }
-{
-    list_inside(list_behind(label_behind(payload)))
-}
-
-// The item is a choice whose body's last node that is no Newline leaves.
-pub fn choice_has_explicit_divert(file: &[u8], item: u32) -> bool
-    ensures { λ r. ⌜ r ≡ itemIn (now (file .entry)) item .what .leaves ⌝ }
-{
-    if sort_in(item) != CHOICE {
-        return false;
-    }
-    nodes_end_with_divert(choice_body(payload_at(file, place_in(item))))
 }

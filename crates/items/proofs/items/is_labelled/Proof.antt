@@ -1,4 +1,4 @@
--- `is_labelled`: the highest bit. Assumes nothing.
+-- `is_labelled`: the bit above that of the branch. Assumes nothing.
 use mathlib.Core.Path.{sym}
 use Rattle.records.specs.Numbers.{labelsIn}
 use Rattle.items.proofs.Sorts.{item-labels}
