@@ -47,12 +47,12 @@ pub fn has_target(item: u32) -> bool
 }
 
 // A choice directly in a branch that does not leave it: rule 11.
-pub fn check_no_direct_choice_in_branch(file: &[u8], item: u32) -> Judged
-    ensures { λ r. ⌜ ((k : Known) (h : Here) (before : List What) → r ≡ judgedBy k h choices before (itemIn (now (file .entry)) item .what)) ⌝ }
+pub fn check_no_direct_choice_in_branch(item: u32) -> Judged
+    ensures { λ r. ⌜ ((file : List ℕ) (k : Known) (h : Here) (before : List What) → r ≡ judgedBy k h choices before (itemIn file item .what)) ⌝ }
 {
     if is_sort(item, CHOICE) {
         if in_branch(item) {
-            if choice_has_explicit_divert(file, item) {
+            if choice_has_explicit_divert(item) {
                 return Judged::Fine;
             }
             return Judged::Broken(Rule::ChoiceUndiverted);

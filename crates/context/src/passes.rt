@@ -101,7 +101,7 @@ fn judge(
         Pass::Temps => validate_temp_name(file, c, functions, scope, kept, item, declared),
         Pass::Targets => validate_node_divert(file, c, index, count, functions, hints, item),
         Pass::Calls => validate_node_function_calls(file, c, functions, item),
-        Pass::Choices => check_no_direct_choice_in_branch(file, item),
+        Pass::Choices => check_no_direct_choice_in_branch(item),
         Pass::VariableDiverts => validate_node_variable_divert_target(file, scope, item),
         Pass::Variables => validate_node_vars(file, scope, kept, item, declared),
         Pass::Gathers => check_gather_label(file, kept, scope.from, scope.to, slot, gathers),

@@ -18,7 +18,7 @@ returns-3 c = rw (c .before .enum-told3 .given .1) (c .validate-node-function-ca
 
 returns-4 : tie.Need-returns-4
 unfolding rulesOf
-returns-4 c = rw (c .before .enum-told4 .given .1) (c .check-no-direct-choice-in-branch .ensures _ _ _)
+returns-4 c = rw (c .before .enum-told4 .given .1) (c .check-no-direct-choice-in-branch .ensures _ _ _ _)
 
 returns-5 : tie.Need-returns-5
 unfolding rulesOf
