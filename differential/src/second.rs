@@ -73,7 +73,7 @@ pub fn kept(file: &[u8]) -> Kept {
     Kept {
         refusal: story.err(),
         met: met.len(),
-        numbers: kept::numbers(&met),
+        numbers: kept::numbers(file, &met),
     }
 }
 

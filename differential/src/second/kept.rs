@@ -1,20 +1,23 @@
-//! The numbers that reading keeps: of each record met that some step visits its place, its sort, and where it stands.
+//! The numbers that reading keeps: of each record met that some step visits its place, its sort, where it stands, and whether it leaves.
 
 use super::reader::{Class, Record};
 
 /// The numbers kept of the records met, front to back.
-pub fn numbers(met: &[Record]) -> Vec<u32> {
-    (0..met.len()).filter_map(|at| number(met, at)).collect()
+pub fn numbers(file: &[u8], met: &[Record]) -> Vec<u32> {
+    (0..met.len())
+        .filter_map(|at| number(file, met, at))
+        .collect()
 }
 
-/// The place, and 2^20 times: the sort, 16 directly in a branch, 32 with a label. A record without a sort has no number.
-fn number(met: &[Record], at: usize) -> Option<u32> {
+/// The place, and 2^20 times: the sort, 16 directly in a branch, 32 with a label, 64 for a choice that leaves. A record without a sort has no number.
+fn number(file: &[u8], met: &[Record], at: usize) -> Option<u32> {
     let record = &met[at];
     let around = around(met, at);
     let sort = sort(record, &around)?;
     let branch = u32::from(in_branch(record, &around));
     let label = u32::from(has_label(record));
-    Some(record.place + ((sort + 16 * branch + 32 * label) << 20))
+    let leaving = u32::from(leaves(file, record));
+    Some(record.place + ((sort + 16 * branch + 32 * label + 64 * leaving) << 20))
 }
 
 /// The records around one, the nearest first: of those met before it the last of each smaller depth.
@@ -78,4 +81,40 @@ fn in_branch(record: &Record, around: &[&Record]) -> bool {
 /// A gather, or a choice whose flag says that a label follows.
 fn has_label(record: &Record) -> bool {
     is_node(record, &[15]) || is_node(record, &[14]) && record.first == Some(1)
+}
+
+/// A choice whose body's last node that is no Newline is of kinds 3, 6, 7, 11 or 12: by the heads of the nodes, as far as they fit, whatever is in them.
+fn leaves(file: &[u8], record: &Record) -> bool {
+    is_node(record, &[14]) && choice_body(file, record).is_some_and(last_leaves)
+}
+
+/// The second list of a choice, if it fits.
+fn choice_body<'f>(file: &'f [u8], choice: &Record) -> Option<&'f [u8]> {
+    let (payload, _) = sized(file.get(choice.place as usize + 1..)?)?;
+    let label = match payload {
+        [1, count, ..] => 1 + usize::from(*count),
+        _ => 0,
+    };
+    let (_, rest) = sized(payload.get(1 + label..)?)?;
+    Some(sized(rest)?.0)
+}
+
+/// The last node of a list that is no Newline leaves.
+fn last_leaves(mut list: &[u8]) -> bool {
+    let mut leaves = false;
+    while let Some((&kind, rest)) = list.split_first()
+        && let Some((_, behind)) = sized(rest)
+    {
+        if kind != 1 {
+            leaves = [3, 6, 7, 11, 12].contains(&kind);
+        }
+        list = behind;
+    }
+    leaves
+}
+
+/// The bytes behind a 32-bit length that has them, and those after them.
+fn sized(bytes: &[u8]) -> Option<(&[u8], &[u8])> {
+    let (length, rest) = bytes.split_first_chunk()?;
+    rest.split_at_checked(u32::from_le_bytes(*length) as usize)
 }
