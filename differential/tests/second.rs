@@ -121,7 +121,7 @@ fn a_stitch_name_stands_at_its_count_byte() {
 }
 
 #[test]
-fn the_numbers_kept_have_place_sort_branch_and_label() {
+fn the_numbers_kept_have_place_sort_branch_label_and_leaving() {
     // Conditional 0, its condition 5 with its name at 10, list length 12 to 15, choice 16 with its flag at 21 and its
     // label at 22, list lengths 24 to 31, divert 32, the conditional's flag 39, temp 40 with its constant at 48,
     // divert 53 with its name at 58, target 60, variable 67.
@@ -136,7 +136,7 @@ fn the_numbers_kept_have_place_sort_branch_and_label() {
     let marked = |mark: u32, place: u32| (mark << 20) + place;
     let expected = [
         marked(5, 5),
-        marked(8 + 16 + 32, 16),
+        marked(8 + 16 + 32 + 64, 16),
         marked(2, 32),
         marked(1, 40),
         marked(2, 53),
@@ -151,6 +151,17 @@ fn a_record_with_a_refused_payload_is_met() {
     let root = [record(15, &name(b"a")), record(13, &[1]), record(15, &[0])].concat();
     let kept = second::kept(&file(&[], &[], &root, &[]));
     assert_eq!(kept.numbers, [(9 + 32) << 20, (1 << 20) + 7]);
+    assert_eq!((kept.refusal, kept.met), (Some(4), 2));
+}
+
+#[test]
+fn a_choice_leaves_by_the_heads_in_its_body() {
+    // Choice 0, its flag 5, list lengths 6 to 13, divert 14 without a name, Newline 19.
+    let body = [record(3, &[]), record(1, &[])].concat();
+    let length = u32::try_from(body.len()).unwrap().to_le_bytes();
+    let choice = record(14, &[&[0; 5][..], &length, &body].concat());
+    let kept = second::kept(&file(&[], &[], &choice, &[]));
+    assert_eq!(kept.numbers, [(8 + 64) << 20, (2 << 20) + 14]);
     assert_eq!((kept.refusal, kept.met), (Some(4), 2));
 }
 

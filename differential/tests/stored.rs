@@ -67,7 +67,7 @@ fn every_cut_and_every_refusal_is_among_the_files() {
     assert_eq!(refused, (1..=6).collect());
 }
 
-/// Sort, branch and label of each number that is kept of some files, up to the refusal where they are refused.
+/// Sort, branch, label and leaving of each number that is kept of some files, up to the refusal where they are refused.
 fn marks<'f>(files: impl Iterator<Item = &'f Vec<u8>>) -> BTreeSet<u32> {
     let numbers = files.flat_map(|file| second::kept(file).numbers);
     numbers.map(|number| number >> 20).collect()
@@ -75,8 +75,8 @@ fn marks<'f>(files: impl Iterator<Item = &'f Vec<u8>>) -> BTreeSet<u32> {
 
 #[test]
 fn every_sort_is_met_in_branches_and_elsewhere_of_readable_and_of_refused_files() {
-    let (gather, labelled) = (9 + 32, 8 + 32);
-    let nodes = [1, 2, 3, 4, 5, 8, labelled, gather];
+    let (gather, labelled, leaving) = (9 + 32, 8 + 32, 8 + 64);
+    let nodes = [1, 2, 3, 4, 5, 8, labelled, leaving, labelled + 64, gather];
     let (variable, argument) = (6, 7);
     let mut expected = BTreeSet::from([variable, argument]);
     expected.extend(nodes);

@@ -19,7 +19,7 @@ use Rattle.records.proofs.Places.{stands-drop, stands-fits, stands-take, Places
 use Rattle.records.specs.Items.{Kind, plain, temp, divert, tunnel, thread, call, variable, argument, choice, gather, parameter, stitchName, flowStart, code, is, Item, nodeSorts, condSorts, exprSorts, argumentSorts, sortOf, whatOf, itemAs, itemOf, itemsAs, itemsIn}
 use Rattle.story.specs.Flows.{part}
 use Rattle.story.specs.Plain.{notPlain}
-use Rattle.records.specs.Numbers.{bit, markOf, numberOf, keptOf, placeIn, sorts, sortIn, branchIn, labelsIn, payloadBehind, payloadAt, itemIn}
+use Rattle.records.specs.Numbers.{bit, markOf, numberOf, keptOf, placeIn, sorts, sortIn, branchIn, labelsIn, leavesIn, payloadBehind, payloadAt, itemIn}
 use Rattle.records.specs.Work.{itemsOf}
 use Rattle.records.proofs.Marks.{code-small, bit-small}
 
@@ -89,10 +89,13 @@ module _ (i : Item) (low : i .place < 1048576) where
   abbrev l : ℕ
   l = bit (i .what .labels)
 
-  small : (k < 16) × (b ≤ 1) × (l ≤ 1)
-  small = (code-small (i .what .kind), bit-small (i .what .branch), bit-small (i .what .labels))
+  abbrev v : ℕ
+  v = bit (i .what .leaves)
 
-  high : numberOf i / 1048576 ≡ k + 16 * b + 32 * l
+  small : (k < 16) × (b ≤ 1) × (l ≤ 1) × (v ≤ 1)
+  small = (code-small (i .what .kind), bit-small (i .what .branch), bit-small (i .what .labels), bit-small (i .what .leaves))
+
+  high : numberOf i / 1048576 ≡ k + 16 * b + 32 * l + 64 * v
   unfolding numberOf markOf
   high = omega arith
 
@@ -110,7 +113,11 @@ module _ (i : Item) (low : i .place < 1048576) where
 
   pub labels-back : labelsIn (numberOf i) ≡ i .what .labels
   unfolding labelsIn
-  labels-back = let e : numberOf i / 1048576 / 32 ≡ l = omega (arith, high, small) in rw e (bit-back (i .what .labels))
+  labels-back = let e : numberOf i / 1048576 / 32 % 2 ≡ l = omega (arith, high, small) in rw e (bit-back (i .what .labels))
+
+  pub leaves-back : leavesIn (numberOf i) ≡ i .what .leaves
+  unfolding leavesIn
+  leaves-back = let e : numberOf i / 1048576 / 64 ≡ v = omega (arith, high, small) in rw e (bit-back (i .what .leaves))
 
 -- 3. The item of a record that stands in the file
 
@@ -121,7 +128,7 @@ payload-back file r h = rw (h .head, drop-drop 5 (r .place) file) (h .behind)
 pub item-back : (file : List ℕ) (r : Record) → Stands file (r .place) (r .kind) (r .payload) → r .place < 1048576 → itemIn file (numberOf (itemOf r)) ≡ itemOf r
 unfolding itemIn itemOf itemAs whatOf
 item-back file r h low =
-    rw (place-back (itemOf r) low, sort-back (itemOf r) low (sort-record (r .role) (r .kind) (r .payload)), branch-back (itemOf r) low, labels-back (itemOf r) low, payload-back file r h)
+    rw (place-back (itemOf r) low, sort-back (itemOf r) low (sort-record (r .role) (r .kind) (r .payload)), branch-back (itemOf r) low, labels-back (itemOf r) low, leaves-back (itemOf r) low, payload-back file r h)
 
 -- the items of what is read from the one place of the file to the other
 module _ (file : List ℕ) (from to : ℕ) (short : length file ≤ 1048576) where

@@ -10,6 +10,7 @@ pub const LENT: [usize; 2] = [512, 3];
 pub fn files() -> Vec<Vec<u8>> {
     let mut files = nodes_in_lists();
     files.extend(expressions_in_nodes());
+    files.extend(bodies_of_choices());
     files.extend(damaged_payloads());
     files.extend(damaged_behind());
     files.extend(deep());
@@ -32,7 +33,12 @@ fn gather() -> Vec<u8> {
     record(15, &name(b"g"))
 }
 
-/// Payloads of nodes, each with its kind: every kind, every mode, with label and without.
+/// A Newline.
+fn newline() -> Vec<u8> {
+    record(1, &[])
+}
+
+/// Payloads of nodes, each with its kind: every kind, every mode, with label and without, leaving and not.
 fn nodes() -> Vec<(u8, Vec<u8>)> {
     let mut nodes = vec![
         (0, vec![]),
@@ -46,6 +52,8 @@ fn nodes() -> Vec<(u8, Vec<u8>)> {
         (12, constant()),
         (14, choice(None, &[], &[])),
         (14, choice(Some(b"c"), &[], &[])),
+        (14, choice(None, &[], &record(6, &[]))),
+        (14, choice(Some(b"c"), &[], &record(6, &[]))),
         (15, name(b"g")),
     ];
     nodes.extend([3, 4, 5, 7, 16].map(|kind| (kind, name(b"k"))));
@@ -53,7 +61,7 @@ fn nodes() -> Vec<(u8, Vec<u8>)> {
     nodes
 }
 
-/// One of each kind of node, mode and label, one behind the other.
+/// One of each kind of node, mode, label and leaving, one behind the other.
 fn all_nodes() -> Vec<u8> {
     let records = nodes().into_iter();
     let records = records.map(|(kind, payload)| record(kind, &payload));
@@ -167,6 +175,30 @@ fn expressions_in_nodes() -> Vec<Vec<u8>> {
         record(14, &choice(None, &[one, one].concat(), &gather()))
     });
     in_bodies(places.iter().map(|place| place.concat()).collect())
+}
+
+/// Choices with each node last in their body, alone, before Newlines and behind a node that leaves; and with a body that is refused there.
+fn bodies_of_choices() -> Vec<Vec<u8>> {
+    let mut bodies = Vec::new();
+    for (kind, payload) in nodes() {
+        let last = record(kind, &payload);
+        let ends = [
+            last.clone(),
+            [&last[..], &newline(), &newline()].concat(),
+            [record(11, &[]), last].concat(),
+        ];
+        bodies.push(
+            ends.map(|end| record(14, &choice(None, &[], &end)))
+                .concat(),
+        );
+        let refused = [record(10, &[0]), record(kind, &[]), newline()].concat();
+        bodies.push(record(14, &choice(Some(b"c"), &[], &refused)));
+        bodies.push(record(
+            14,
+            &choice(None, &[], &[&refused[..], &[3, 0]].concat()),
+        ));
+    }
+    in_bodies(bodies)
 }
 
 /// Behind a gather, in a branch: each node with its payload cut at every length, with a byte more, and with another first byte.
