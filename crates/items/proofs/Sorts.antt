@@ -11,7 +11,7 @@ use Rattle.names.specs.Words.{Bytes}
 use Rattle.names.specs.Counted.{nameAt}
 use Rattle.records.specs.Items.{Kind, plain, temp, choice, code, nameIn, sameKind, nameStart, nameless, recordName}
 use Rattle.records.specs.Numbers.{placeIn, sorts, sortIn, branchIn, labelsIn, leavesIn, payloadAt, itemIn}
-use Rattle.records.proofs.Parts.{part-none}
+use Rattle.items.proofs.Parts.{part-none}
 
 -- 1. The table of sorts
 

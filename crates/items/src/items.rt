@@ -2,12 +2,12 @@
 ghost use mathlib.Core.Path.{_≡_};
 ghost use mathlib.Core.List.{List};
 ghost use Prim.Native.Nat.{ℕ, _<_};
+ghost use lib.ListN.{drop};
 ghost use Rattle.records.specs.Items.{Kind, code, nameStart, nameless};
 ghost use Rattle.records.specs.Numbers.{placeIn, payloadAt, itemIn};
 use fields::HeadRead;
 use fields::read_head;
 use names::name_at;
-use records::leaving::tail;
 use records::sorts::CHOICE;
 use records::sorts::GATHER;
 use records::sorts::PLAIN;
@@ -51,6 +51,16 @@ pub fn choice_has_explicit_divert(item: u32) -> bool
     ensures { λ r. ⌜ ((file : List ℕ) → r ≡ itemIn file item .what .leaves) ⌝ }
 {
     item / 1048576 / 64 == 1
+}
+
+// What follows the first bytes.
+fn tail<'a>(s: &'a [u8], at: usize) -> &'a [u8]
+    ensures { λ r. ⌜ now r ≡ drop at (now (s .entry)) ⌝ }
+{
+    if s.len() <= at {
+        return &s[s.len()..];
+    }
+    &s[at..]
 }
 
 // The payload of the record whose kind byte stands at the place.
