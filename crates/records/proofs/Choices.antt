@@ -1,16 +1,15 @@
 -- A choice as the walk goes through it: its label, its conditions, its nodes, and whether these leave. Assumes nothing.
 use mathlib.Core.Path.{_≡_, refl, sym, ap, _∙_}
-use mathlib.Core.Bool.{Bool, true, false, not, _&&_}
+use mathlib.Core.Bool.{Bool, true, false, not}
 use mathlib.Core.List.{List, [], _∷_}
 use Prim.Native.Nat.{ℕ, _+_, _-_, _%_, _^_, _≤_, _<_}
 use native.Mathlib.Omega.{arith}
-use lib.Dec.{ltb, eqb}
 use lib.ListN.{length, getD, set, take, drop, length-drop}
 use lib.Seq.{drop-drop, getD-drop, set-out}
 use Rattle.fields.specs.declared.Refusal.{Refusal}
-use Rattle.fields.specs.declared.Refusal.the-variants.{Short, Unknown}
+use Rattle.fields.specs.declared.Refusal.the-variants.{Short}
 use Rattle.fields.specs.declared.Role.{Role}
-use Rattle.fields.specs.declared.Role.the-variants.{Node, Branch, Cond, Visited, Argument, Unvisited}
+use Rattle.fields.specs.declared.Role.the-variants.{Node}
 use Rattle.fields.specs.declared.Body.{Body}
 use Rattle.fields.specs.declared.Body.the-variants as body
 use Rattle.fields.specs.declared.Kinded.{Kinded}
@@ -19,18 +18,18 @@ use Rattle.fields.specs.declared.Reach.{Reach}
 use Rattle.fields.specs.declared.Reach.the-variants as reach
 use Rattle.fields.specs.declared.FlagRead.{FlagRead}
 use Rattle.fields.specs.declared.FlagRead.the-variants as flag
-use Rattle.fields.specs.Bytes.{Span, pick, listOf, nameOf, flagOf, spanReach}
-use Rattle.fields.specs.Kinds.{kindOf, nodeKinds, nodeKind, condKinds, condKind, exprKinds, exprKind}
+use Rattle.fields.specs.Bytes.{listOf, nameOf, flagOf, spanReach}
+use Rattle.fields.specs.Kinds.{kindOf, nodeKinds}
 use Rattle.fields.proofs.Laws.{span-to, to-end, name-within, name-count, off-fits, on-fits, flag-off, flag-on}
 use Rattle.records.specs.declared.NodesRead.{NodesRead}
 use Rattle.records.specs.declared.NodesRead.the-variants as nodes-read
 use Rattle.records.specs.declared.Walk.{Walk}
 use Rattle.records.specs.declared.Walk.the-variants as walk
 use Rattle.records.specs.Grammar.{Reading, Reader, ending, records, listed, named, flagged, last, options, bodyOf, recordOf}
-use Rattle.records.specs.Items.{Kind, plain, choice, sameKind, nodeSorts, condSorts, exprSorts, argumentSorts, sortOf, endWithDivert, spanned, past, unlabelled, choiceBody, leaves}
+use Rattle.records.specs.Items.{Kind, plain, choice, sameKind, sortOf, endWithDivert, spanned, past, unlabelled, choiceBody, leaves}
 use Rattle.records.specs.Work.{St, st, Ran, ended, broke, Visitor, run, keeping, walkOf, Written, Told, endOf, reachAfter, labelReachOf, labelReach, secondList, nodesOf, ToldNodes, nodesEnd, isChoice, payloadLeaves, lastSlot, leavesAt, putLeaves, nodesWalk, nodesPut}
-use Rattle.records.proofs.Tables.{all-pairs, pairs-at}
-use Rattle.records.proofs.Marks.{sorts-by}
+use Rattle.records.proofs.Tables.{all-pairs}
+use Rattle.records.proofs.Marks.{sorts-by, every-kind}
 use Rattle.records.proofs.Walking.{told-ended, told-end, flagged-refused, flagged-off, flagged-on, named-refused, named-on, sized-on, sized-else, record-on}
 use Rattle.records.proofs.Leaving.{onOut, run-put-leaves, put-leaves-length}
 
@@ -318,18 +317,9 @@ unfolding all-pairs agrees same-test isChoice
 nodes-agree true = refl
 nodes-agree false = refl
 
-node-agrees : (payload : List ℕ) (k : ℕ) → agrees (nodeKind k) (getD (nodeSorts payload) k plain) ≡ true
-unfolding nodeKind
-node-agrees payload k = pairs-at agrees kinded.None plain none-agrees nodeKinds (nodeSorts payload) (nodes-agree (eqb (getD payload 0 0) 1)) k
-
 kind-agrees : (role : Role) (kind : ℕ) (payload : List ℕ) → agrees (kindOf role kind) (sortOf role kind payload) ≡ true
-unfolding kindOf sortOf condKind exprKind all-pairs agrees same-test isChoice
-kind-agrees Node kind payload = node-agrees payload kind
-kind-agrees Branch kind payload = node-agrees payload kind
-kind-agrees Cond kind payload = pairs-at agrees kinded.None plain none-agrees condKinds condSorts refl kind
-kind-agrees Visited kind payload = pairs-at agrees kinded.None plain none-agrees (exprKinds Visited) exprSorts refl kind
-kind-agrees Argument kind payload = pairs-at agrees kinded.None plain none-agrees (exprKinds Unvisited) argumentSorts refl kind
-kind-agrees Unvisited kind payload = pairs-at agrees kinded.None plain none-agrees (exprKinds Unvisited) [] refl kind
+unfolding all-pairs agrees same-test isChoice
+kind-agrees = every-kind agrees none-agrees nodes-agree refl refl refl refl
 
 sort-leaves : (role : Role) (kind : ℕ) (payload : List ℕ) (c : Body) {r : Kinded} → r ≡ kindOf role kind → r ≡ kinded.Known c → leaves (sortOf role kind payload) payload ≡ payloadLeaves c payload
 unfolding leaves payloadLeaves agrees

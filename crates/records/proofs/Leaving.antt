@@ -1,6 +1,6 @@
 -- Nodes that leave, and the bit for it in the number of a choice, which is kept before its nodes are read. Assumes nothing.
 use mathlib.Core.Path.{_≡_, refl, sym, ap, _∙_}
-use mathlib.Core.Bool.{Bool, true, false, _&&_}
+use mathlib.Core.Bool.{Bool, true, false}
 use mathlib.Core.List.{List, [], _∷_}
 use Prim.Native.Nat.{ℕ, zero, suc, _+_, _-_, _%_, _^_, _≤_, _<_}
 use native.Mathlib.Omega.{arith}
@@ -9,9 +9,7 @@ use lib.ListN.{length, getD, set, take, drop, length-drop, length-set}
 use lib.Seq.{getD-set-other, set-comm}
 use Rattle.fields.specs.declared.HeadRead.{HeadRead}
 use Rattle.fields.specs.declared.HeadRead.the-variants as head-read
-use Rattle.fields.specs.declared.Role.{Role}
 use Rattle.fields.specs.declared.Body.{Body}
-use Rattle.fields.specs.declared.Body.the-variants as body
 use Rattle.fields.specs.Bytes.{Head, pick, headOf, headRead}
 use Rattle.fields.proofs.Laws.{head-to, to-end}
 use Rattle.records.specs.Trace.{Trace, done, refuse, emit, met}

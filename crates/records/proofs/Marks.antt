@@ -9,11 +9,15 @@ use lib.Dec.{eqb}
 use lib.Seq.{set-out, set-set, getD-set-same}
 use borrow.Author.Tests.{ne-eqb}
 use Rattle.fields.specs.declared.Role.{Role}
+use Rattle.fields.specs.declared.Role.the-variants.{Node, Branch, Cond, Visited, Argument, Unvisited}
+use Rattle.fields.specs.declared.Kinded.{Kinded}
+use Rattle.fields.specs.declared.Kinded.the-variants as kinded
 use Rattle.fields.specs.Bytes.{pick}
+use Rattle.fields.specs.Kinds.{kindOf, nodeKinds, nodeKind, condKinds, condKind, exprKinds, exprKind}
 use Rattle.records.specs.Items.{Kind, plain, temp, divert, tunnel, thread, call, variable, argument, choice, gather, parameter, stitchName, flowStart, code, assigned, nodeSorts, condSorts, exprSorts, argumentSorts, sortOf, labelled, inBranch, leaves, whatOf, itemAs, itemOf}
 use Rattle.records.specs.Numbers.{bit, markOf, numberOf}
 use Rattle.records.specs.Work.{st, keep, keeping, lastSlot, leavesAt, putLeaves}
-use Rattle.records.proofs.Tables.{Misses, missed}
+use Rattle.records.proofs.Tables.{Misses, missed, all-pairs, pairs-at}
 
 -- 1. The tables
 
@@ -35,6 +39,19 @@ expr-plain kind h = sym (ap code (missed plain 7 ((5, call) ∷ (1, variable) �
 
 pub argument-plain : (kind : ℕ) → Misses plain ((2, argument) ∷ []) kind → 0 ≡ code (getD argumentSorts kind plain)
 argument-plain kind h = sym (ap code (missed plain 3 ((2, argument) ∷ []) kind h))
+
+-- a test of kinds beside sorts passes for every record where it passes along the tables, and where there is no such kind
+module _ (test : Kinded → Kind → Bool) (none : (k : Kind) → test kinded.None k ≡ true) (nodes : (x : Bool) → all-pairs test plain nodeKinds (sorts-by x) ≡ true)
+    (conds : all-pairs test plain condKinds condSorts ≡ true) (exprs : all-pairs test plain (exprKinds Visited) exprSorts ≡ true)
+    (arguments : all-pairs test plain (exprKinds Unvisited) argumentSorts ≡ true) (others : all-pairs test plain (exprKinds Unvisited) [] ≡ true) where
+  pub every-kind : (role : Role) (kind : ℕ) (payload : List ℕ) → test (kindOf role kind) (sortOf role kind payload) ≡ true
+  unfolding kindOf nodeKind condKind exprKind sortOf
+  every-kind Node kind payload = pairs-at test kinded.None plain none nodeKinds (nodeSorts payload) (nodes (eqb (getD payload 0 0) 1)) kind
+  every-kind Branch kind payload = pairs-at test kinded.None plain none nodeKinds (nodeSorts payload) (nodes (eqb (getD payload 0 0) 1)) kind
+  every-kind Cond kind payload = pairs-at test kinded.None plain none condKinds condSorts conds kind
+  every-kind Visited kind payload = pairs-at test kinded.None plain none (exprKinds Visited) exprSorts exprs kind
+  every-kind Argument kind payload = pairs-at test kinded.None plain none (exprKinds Unvisited) argumentSorts arguments kind
+  every-kind Unvisited kind payload = pairs-at test kinded.None plain none (exprKinds Unvisited) [] others kind
 
 -- 2. The numbers of sorts and tests are small
 

@@ -1,4 +1,4 @@
--- Inner contract. A walk as it goes: the buffer, and how many records were kept and met so far; and the places after pieces.
+-- Inner contract. A walk as it goes: the buffer, how many records were kept and met so far, the bit of a choice that leaves, and the places after pieces.
 use Prim.Native.Nat.{ℕ, _+_, _*_, _%_, _^_}
 use mathlib.Core.Path.{_≡_}
 use mathlib.Core.Bool.{Bool, true, false, _&&_}

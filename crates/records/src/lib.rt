@@ -14,6 +14,9 @@ use walker::list;
 // One record met, in the number that carries both counts (`counts` of specs/Work): those met by its quotient, those kept by its remainder.
 pub const MET: usize = 4294967296;
 
+// That a choice leaves, in its number: 64 in the mark (`markOf` of specs/Numbers).
+pub const LEAVES: u32 = 67108864;
+
 // How a walk ends: read through, with the counts of records kept and met as one number; or refused.
 pub enum Walk {
     Done(usize),

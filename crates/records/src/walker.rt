@@ -8,6 +8,7 @@ ghost use lib.Dec.{eqb};
 ghost use Rattle.fields.specs.Bytes.{pick, listOf};
 ghost use Rattle.records.specs.Items.{sortOf, leaving, leaves, spanned, choiceBody, endWithDivert};
 ghost use Rattle.records.specs.Work.{run, st, keeping, Told, pieceOf, ToldTo, headEnd, listEnd, testEnd, branchEnd, endOf, labelReach, secondList, ToldNodes, nodesEnd, payloadLeaves, putLeaves, nodesWalk, nodesPut};
+use crate::LEAVES;
 use crate::MET;
 use crate::NodesRead;
 use crate::PieceRead;
@@ -139,7 +140,7 @@ fn put_leaves(nodes: NodesRead, out: &mut [u32], n: usize) -> Walk
             if leaves {
                 let slot = std::num::wrapping_add_usize(n, MET - 1) % MET;
                 if slot < out.len() {
-                    out[slot] = std::num::wrapping_add_u32(out[slot], 67108864);
+                    out[slot] = std::num::wrapping_add_u32(out[slot], LEAVES);
                     return Walk::Done(m);
                 }
                 return Walk::Done(m);

@@ -5,11 +5,10 @@ use mathlib.Core.List.{List, [], _∷_, _++_, map, List·Memᴰ·head, List·Mem
 use mathlib.Core.Logic.{_⊎_, _↔_, inl, inr, ⊎-elim}
 use Prim.Native.Nat.{ℕ, zero, suc, _+_, _≤_}
 use native.Mathlib.Omega.{arith}
-use lib.Dec.{T, eqb, ltb, eqb→eq, eqb-refl}
+use lib.Dec.{T, eqb, eqb→eq, eqb-refl}
 use lib.ListN.{length, getD, take, drop, length-drop}
 use lib.Seq.{drop-drop, getD-drop}
 use borrow.Author.Tests.{eqb-true}
-use Rattle.fields.specs.declared.Refusal.the-variants.{Short, Unknown}
 use Rattle.fields.specs.declared.Role.{Role}
 use Rattle.fields.specs.declared.Role.the-variants.{Node, Cond}
 use Rattle.fields.specs.declared.Body.the-variants as body

@@ -1,15 +1,13 @@
 -- Names and pieces as the rules see them, one at a time. Assumes nothing.
 use mathlib.Core.Path.{_≡_, refl, sym, _∙_, ap}
 use mathlib.Core.List.{List, [], _∷_}
-use mathlib.Core.Bool.{Bool, true, false}
 use Prim.Native.Nat.{ℕ, zero, suc, _+_, _-_, _≤_, _<_}
 use native.Mathlib.Numerals.{sub-one}
 use native.Mathlib.Omega.{arith}
-use lib.Dec.{ltb, eqb}
+use lib.Dec.{eqb}
 use lib.ListN.{length, getD, take, drop, length-drop}
 use Rattle.fields.specs.declared.Refusal.{Refusal}
-use Rattle.fields.specs.declared.Refusal.the-variants.{Short}
-use Rattle.fields.specs.Bytes.{Span, pick, listOf, nameOf}
+use Rattle.fields.specs.Bytes.{Span, listOf, nameOf}
 use Rattle.fields.proofs.Laws.{list-fits, name-count, name-fits}
 use Rattle.story.specs.declared.Heading.{Heading}
 use Rattle.story.specs.declared.HeadingRead.{HeadingRead}

@@ -6,10 +6,10 @@ use mathlib.Core.List.{List, [], _∷_}
 use Prim.Native.Nat.{ℕ, zero, suc, _+_, _-_, _*_, _≤_}
 use native.Mathlib.Omega.{arith}
 use lib.Dec.{ltb, eqb}
-use lib.ListN.{length, getD, take, drop, length-take, length-drop}
+use lib.ListN.{length, take, drop, length-take, length-drop}
 use borrow.Author.Tests.{ltb-true}
 use Rattle.fields.specs.declared.Role.{Role}
-use Rattle.fields.specs.declared.Role.the-variants.{Node, Branch, Cond, Visited, Argument, Unvisited}
+use Rattle.fields.specs.declared.Role.the-variants.{Node, Branch, Cond, Visited}
 use Rattle.fields.specs.declared.Body.{Body}
 use Rattle.fields.specs.declared.Body.the-variants as body
 use Rattle.fields.specs.declared.FlagRead.{FlagRead}
@@ -18,21 +18,21 @@ use Rattle.fields.specs.declared.Kinded.{Kinded}
 use Rattle.fields.specs.declared.Kinded.the-variants as kinded
 use Rattle.fields.specs.declared.Refusal.the-variants.{Unknown}
 use Rattle.fields.specs.Bytes.{Head, Span, pick, headOf, listOf, nameOf, flagOf}
-use Rattle.fields.specs.Kinds.{kindOf, nodeKinds, nodeKind, condKinds, condKind, exprKinds, exprKind}
+use Rattle.fields.specs.Kinds.{kindOf, nodeKinds}
 use Rattle.fields.proofs.Laws.{head-fits, list-fits, name-fits, off-fits, on-fits}
 use Rattle.records.specs.Trace.{Trace, done, refuse, emit, andThen, shift, met, Ending, well, refused, ends}
 use Rattle.records.specs.Grammar.{Reading, Reader, frontAt, front, ending, repeatN, repeat, records, exact, pieceAt, listed, namedAt, named, flaggedAt, flagged, moded, last, orElse, arms, options, tested, branch, bodyOf, whole, tooDeep, recordOf, nodes, piece}
 use Rattle.story.specs.declared.Sections.{Sections}
 use Rattle.story.specs.declared.HeadingRead.{HeadingRead}
 use Rattle.story.specs.declared.HeadingRead.the-variants as heading
-use Rattle.records.specs.Items.{Kind, plain, code, nodeSorts, condSorts, exprSorts, argumentSorts, sortOf, whatOf, itemAs, itemOf}
+use Rattle.records.specs.Items.{Kind, plain, code, sortOf, whatOf, itemAs, itemOf}
 use Rattle.story.specs.Headings.{headingOf}
 use Rattle.story.specs.Flows.{names, titled, stitch, stitches, flow, flows, part}
 use Rattle.story.specs.File.{sectionsRead, storyIn, InOrder}
 use Rattle.story.proofs.Reaches.{heading-laid}
 use Rattle.story.proofs.Parts.{part-length}
-use Rattle.records.proofs.Tables.{all-pairs, pairs-at}
-use Rattle.records.proofs.Marks.{sorts-by}
+use Rattle.records.proofs.Tables.{all-pairs}
+use Rattle.records.proofs.Marks.{sorts-by, every-kind}
 use Rattle.records.specs.Numbers.{numberOf, keptOf}
 use Rattle.records.specs.Work.{itemsOf}
 use Rattle.story.specs.Story.{storyItems}
@@ -103,18 +103,9 @@ unfolding all-pairs light weight own
 nodes-light true = refl
 nodes-light false = refl
 
-node-light : (payload : List ℕ) (k : ℕ) → light (nodeKind k) (getD (nodeSorts payload) k plain) ≡ true
-unfolding nodeKind
-node-light payload k = pairs-at light kinded.None plain none-light nodeKinds (nodeSorts payload) (nodes-light (eqb (getD payload 0 0) 1)) k
-
 kind-light : (role : Role) (kind : ℕ) (payload : List ℕ) → light (kindOf role kind) (sortOf role kind payload) ≡ true
-unfolding kindOf sortOf condKind exprKind all-pairs light weight own
-kind-light Node kind payload = node-light payload kind
-kind-light Branch kind payload = node-light payload kind
-kind-light Cond kind payload = pairs-at light kinded.None plain none-light condKinds condSorts refl kind
-kind-light Visited kind payload = pairs-at light kinded.None plain none-light (exprKinds Visited) exprSorts refl kind
-kind-light Argument kind payload = pairs-at light kinded.None plain none-light (exprKinds Unvisited) argumentSorts refl kind
-kind-light Unvisited kind payload = pairs-at light kinded.None plain none-light (exprKinds Unvisited) [] refl kind
+unfolding all-pairs light weight own
+kind-light = every-kind light none-light nodes-light refl refl refl refl
 
 kind-weighs : (role : Role) (kind : ℕ) (payload : List ℕ) (b : Body) → kindOf role kind ≡ kinded.Known b → weight (sortOf role kind payload) ≤ 5 + own b
 unfolding light

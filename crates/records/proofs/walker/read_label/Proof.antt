@@ -1,6 +1,5 @@
 -- `read_label`: the flag, and the name where it is on. Assumes nothing.
 use native.Mathlib.Omega.{arith}
-use lib.ListN.{length}
 use Rattle.fields.proofs.Laws.{on-fits}
 use Rattle.records.proofs.Choices.{label-flag-refused, label-none, label-name-refused, label-name, label-name-fits}
 use borrow.Author.Needs.{needs}
