@@ -155,14 +155,18 @@ fn a_record_with_a_refused_payload_is_met() {
 }
 
 #[test]
-fn a_choice_leaves_by_the_heads_in_its_body() {
-    // Choice 0, its flag 5, list lengths 6 to 13, divert 14 without a name, Newline 19.
-    let body = [record(3, &[]), record(1, &[])].concat();
-    let length = u32::try_from(body.len()).unwrap().to_le_bytes();
-    let choice = record(14, &[&[0; 5][..], &length, &body].concat());
+fn a_choice_that_leaves_has_the_bit_in_its_own_number() {
+    // Choice 0, its flag 5, list length 6 to 9, condition 10 with its name at 15, list length 17 to 20, TunnelReturn 21, Newline 26.
+    let listed = |records: &[u8]| {
+        let length = u32::try_from(records.len()).unwrap().to_le_bytes();
+        [&length[..], records].concat()
+    };
+    let conditions = listed(&record(1, &name(b"f")));
+    let body = listed(&[record(6, &[]), record(1, &[])].concat());
+    let choice = record(14, &[&[0][..], &conditions, &body].concat());
     let kept = second::kept(&file(&[], &[], &choice, &[]));
-    assert_eq!(kept.numbers, [(8 + 64) << 20, (2 << 20) + 14]);
-    assert_eq!((kept.refusal, kept.met), (Some(4), 2));
+    assert_eq!(kept.numbers, [(8 + 64) << 20, (5 << 20) + 10]);
+    assert_eq!((kept.refusal, kept.met), (None, 4));
 }
 
 #[test]

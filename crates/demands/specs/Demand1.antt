@@ -29,8 +29,8 @@ abbrev pub Reads : Type 1
 Reads = List ℕ → List ℕ → StoryRead → List ℕ → Type 0
 
 -- reading: refusals 1 to 6, else the sections that the trailer has, how many items of the story are not plain, and how many there are.
--- A refusal leaves 0 in every slot of the buffer; else it has the numbers of all items that are not plain, as far as it reaches, and is else
--- as it was.
+-- A refusal leaves 0 in every slot of the buffer. Of a readable file it has the numbers of all items that are not plain, as far as it
+-- reaches, and the rest stays.
 pub record ReadClaim (Read : Reads) : Type 0 where
   pub refuses : (file items : List ℕ) (r : StoryRead) (items′ : List ℕ) → Read file items r items′ → (n : ℕ) → (read.readResultOf r ≡ read.refused n) ↔ Unreadable file n
   pub reads : (file items : List ℕ) (r : StoryRead) (items′ : List ℕ) → Read file items r items′ → NoneApplies file

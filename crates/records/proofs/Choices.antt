@@ -26,8 +26,8 @@ use Rattle.records.specs.declared.NodesRead.the-variants as nodes-read
 use Rattle.records.specs.declared.Walk.{Walk}
 use Rattle.records.specs.declared.Walk.the-variants as walk
 use Rattle.records.specs.Grammar.{Reading, Reader, ending, records, listed, named, flagged, last, options, bodyOf, recordOf}
-use Rattle.records.specs.Items.{Kind, plain, choice, sameKind, sortOf, endWithDivert, spanned, past, unlabelled, choiceBody, leaves}
-use Rattle.records.specs.Work.{St, st, Ran, ended, broke, Visitor, run, keeping, walkOf, Written, Told, endOf, reachAfter, labelReachOf, labelReach, secondList, nodesOf, ToldNodes, nodesEnd, isChoice, payloadLeaves, lastSlot, leavesAt, putLeaves, nodesWalk, nodesPut}
+use Rattle.records.specs.Items.{Kind, plain, choice, sameKind, sortOf, endWithDivert, spanned, past, unlabelled, secondList, choiceBody, leaves}
+use Rattle.records.specs.Work.{St, st, Ran, ended, broke, Visitor, run, keeping, walkOf, Written, Told, endOf, reachAfter, labelReachOf, labelReach, nodesOf, ToldNodes, nodesEnd, isChoice, payloadLeaves, lastSlot, leavesAt, putLeaves, nodesWalk, nodesPut}
 use Rattle.records.proofs.Tables.{all-pairs}
 use Rattle.records.proofs.Marks.{sorts-by, every-kind}
 use Rattle.records.proofs.Walking.{told-ended, told-end, flagged-refused, flagged-off, flagged-on, named-refused, named-on, sized-on, sized-else, record-on}
@@ -69,7 +69,7 @@ module _ (s : List ℕ) {f : FlagRead} (p : f ≡ flagOf s) where
     label-name-fits {e} z = omega (arith, name-within (take (length s - 1) (drop 1 s)) e n z, length-drop 1 s, on-fits s p q, ap length (to-end 1 s))
 
 -- what the label is: a flag that is off, or one that is on and a name behind it
-pub data Labelled (s : List ℕ) (e : ℕ) : Type 0 where
+data Labelled (s : List ℕ) (e : ℕ) : Type 0 where
   none : flagOf s ≡ flag.Off → e ≡ 1 → Labelled s e
   some : (d : ℕ) → flagOf s ≡ flag.On → spanReach 1 (nameOf (drop 1 s)) ≡ reach.To d → e ≡ 1 + d → Labelled s e
 
@@ -91,7 +91,7 @@ module _ (s : List ℕ) {r : Reach} (read : r ≡ labelReach s) where
       by-label (some d p n z) = omega (arith, on-fits s refl p, z, name-within (drop 1 s) d refl n, length-drop 1 s)
 
   -- what follows it
-  pub label-past : (e : ℕ) → r ≡ reach.To e → unlabelled s ≡ drop e s
+  label-past : (e : ℕ) → r ≡ reach.To e → unlabelled s ≡ drop e s
   unfolding unlabelled
   label-past e q = by-label (label-to e q)
     where
@@ -104,7 +104,7 @@ module _ (s : List ℕ) {r : Reach} (read : r ≡ labelReach s) where
           rw (flag-on s p, count, two)
 
   module _ (v : Visitor St) (b : ℕ) (s₀ : St) (k : Reading) where
-    pub label-on : (e : ℕ) → r ≡ reach.To e → run v b s₀ (flagged k (named k) s) ≡ run v (b + e) s₀ (k (take (length s - e) (drop e s)))
+    label-on : (e : ℕ) → r ≡ reach.To e → run v b s₀ (flagged k (named k) s) ≡ run v (b + e) s₀ (k (take (length s - e) (drop e s)))
     label-on e q = rw (to-end e s) (by-label (label-to e q))
       where
         by-label : Labelled s e → run v b s₀ (flagged k (named k) s) ≡ run v (b + e) s₀ (k (drop e s))
@@ -114,7 +114,7 @@ module _ (s : List ℕ) {r : Reach} (read : r ≡ labelReach s) where
             rw (z, ← there, ← drop-drop d 1 s)
             (flagged-on v b s₀ k (named k) s refl p ∙ rw (to-end 1 s) (named-on v (b + 1) s₀ k (drop 1 s) d refl n ∙ rw (to-end d (drop 1 s))))
 
-    pub label-refused : (x : Refusal) → r ≡ reach.Refused x → Told (run v b s₀ (flagged k (named k) s)) (walk.Refused x) (s₀ .out)
+    label-refused : (x : Refusal) → r ≡ reach.Refused x → Told (run v b s₀ (flagged k (named k) s)) (walk.Refused x) (s₀ .out)
     unfolding labelReachOf
     label-refused x q = by-flag (flagOf s) refl (sym read ∙ q)
       where
@@ -128,12 +128,12 @@ module _ (s : List ℕ) {r : Reach} (read : r ≡ labelReach s) where
 
 module _ (s : List ℕ) (to : ℕ) {r : Reach} (read : r ≡ spanReach 4 (listOf s)) (at : r ≡ reach.To to) where
   -- the list at the front
-  pub list-there : spanned (listOf s) s ≡ take (to - 4) (drop 4 s)
+  list-there : spanned (listOf s) s ≡ take (to - 4) (drop 4 s)
   unfolding spanned
   list-there = rw (span-to 4 (listOf s) read to at .0)
 
   -- what follows it
-  pub list-past : past (listOf s) s ≡ take (length s - to) (drop to s)
+  list-past : past (listOf s) s ≡ take (length s - to) (drop to s)
   unfolding past
   list-past = let h = span-to 4 (listOf s) read to at in rw (to-end to s, h .0, h .1)
 
@@ -275,7 +275,7 @@ module _ (b n left : ℕ) (s out : List ℕ) {r : Reach} (read : r ≡ labelReac
   module _ (short : length s ≤ 1048576) (e : ℕ) (q : r ≡ reach.To e) {a : NodesRead} {o : List ℕ}
       (g : ToldNodes (run keeping (b + e) (st out n) (options (recordOf left) (take (length s - e) (drop e s)))) (endWithDivert (secondList (take (length s - e) (drop e s)))) a o) where
     body-there : choiceBody s ≡ secondList (take (length s - e) (drop e s))
-    unfolding choiceBody secondList
+    unfolding choiceBody
     body-there = rw (to-end e s, label-past s read e q)
 
     whole-there : run keeping b (st (putLeaves (endWithDivert (choiceBody s)) n out) n) (flagged (options (recordOf left)) (named (options (recordOf left))) s)

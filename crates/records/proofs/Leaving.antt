@@ -92,15 +92,15 @@ slot-kept : (n i : ℕ) → ((n + 4294967297) % 2 ^ 64 + i) % 4294967296 ≡ (n 
 slot-kept n i = omega arith
 
 -- in such a slot the bit may as well be put afterwards
-run-putLeaves : (b slot : ℕ) (t : Trace) (out : List ℕ) (n : ℕ) → Apart slot n (length (met b t))
+run-leaves-at : (b slot : ℕ) (t : Trace) (out : List ℕ) (n : ℕ) → Apart slot n (length (met b t))
     → run keeping b (st (leavesAt slot out) n) t ≡ onOut (leavesAt slot) (run keeping b (st out n) t)
 unfolding run met onOut keeping keep
-run-putLeaves b slot done out n p = refl
-run-putLeaves b slot (refuse r) out n p = refl
-run-putLeaves b slot (emit role kind place bs t) out n p =
+run-leaves-at b slot done out n p = refl
+run-leaves-at b slot (refuse r) out n p = refl
+run-leaves-at b slot (emit role kind place bs t) out n p =
     by-test (is plain (item .what))
-    (run-putLeaves b slot t out ((n + 4294967296) % 2 ^ 64) (λ i h e. p i (omega arith) (e ∙ slot-met n i)))
-    (run-putLeaves b slot t (set out (n % 4294967296) (numberOf item)) ((n + 4294967297) % 2 ^ 64) (λ i h e. p (suc i) (omega arith) (e ∙ slot-kept n i)))
+    (run-leaves-at b slot t out ((n + 4294967296) % 2 ^ 64) (λ i h e. p i (omega arith) (e ∙ slot-met n i)))
+    (run-leaves-at b slot t (set out (n % 4294967296) (numberOf item)) ((n + 4294967297) % 2 ^ 64) (λ i h e. p (suc i) (omega arith) (e ∙ slot-kept n i)))
   where
     item : Item
     item = itemOf (record { role = role; kind = kind; place = b + place; payload = bs })
@@ -133,7 +133,7 @@ pub run-put-leaves : (leaves : Bool) (b n left : ℕ) (c : Body) (s out : List �
 unfolding putLeaves
 run-put-leaves true b n left c s out h =
     let t = bodyOf c (recordOf left) s in
-    run-putLeaves b (lastSlot n) t out n (last-apart n (length (met b t)) (omega (arith, payload-count left b c s)))
+    run-leaves-at b (lastSlot n) t out n (last-apart n (length (met b t)) (omega (arith, payload-count left b c s)))
 run-put-leaves false b n left c s out h = same-run n (run keeping b (st out n) (bodyOf c (recordOf left) s))
 
 pub put-leaves-length : (leaves : Bool) (n : ℕ) (out : List ℕ) → length (putLeaves leaves n out) ≡ length out

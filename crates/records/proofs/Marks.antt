@@ -102,7 +102,7 @@ module _ (out : List ℕ) (n : ℕ) (role : Role) (kind place : ℕ) (payload : 
   unfolding keeping keep itemOf itemAs whatOf
   note-plain z e = rw (← found, z, e)
 
-  -- which leaves nowhere
+  -- the same, as `note` ensures it: a plain record is no choice, and no bit is put
   pub plain-noted : sort ≡ 0 → next ≡ (n + 4294967296) % 2 ^ 64
       → st (putLeaves (leaves (sortOf role kind payload) payload) next out) next ≡ keeping (st out n) role kind place payload
   unfolding leaves putLeaves

@@ -156,9 +156,13 @@ past (Span.Refused x) s = []
 unfoldable pub unlabelled : List ℕ → List ℕ
 unlabelled payload = pick (flag payload) (drop (2 + getD payload 1 0) payload) (drop 1 payload)
 
+-- the bytes of the second of two lists
+unfoldable pub secondList : List ℕ → List ℕ
+secondList s = spanned (listOf (past (listOf s) s)) (past (listOf s) s)
+
 -- the body of a choice: its second list
 unfoldable pub choiceBody : List ℕ → List ℕ
-choiceBody payload = let rest = past (listOf (unlabelled payload)) (unlabelled payload) in spanned (listOf rest) rest
+choiceBody payload = secondList (unlabelled payload)
 
 -- a choice whose body's last non-Newline leaves
 unfoldable pub leaves : Kind → List ℕ → Bool

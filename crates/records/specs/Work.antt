@@ -19,7 +19,7 @@ use Rattle.fields.specs.declared.FlagRead.{FlagRead}
 use Rattle.fields.specs.declared.FlagRead.the-variants as flag
 use Rattle.fields.specs.Bytes.{pick, headOf, headRead, listOf, nameOf, spanReach, flagOf}
 use Rattle.records.specs.Trace.{Trace, done, refuse, emit, met, Ending, well, refused, ends}
-use Rattle.records.specs.Items.{plain, code, is, Item, sortOf, itemOf, spanned, past, choiceBody, endWithDivert}
+use Rattle.records.specs.Items.{plain, code, is, Item, sortOf, itemOf, choiceBody, endWithDivert}
 use Rattle.records.specs.declared.PieceRead.{PieceRead}
 use Rattle.records.specs.declared.PieceRead.the-variants as piece-read
 use Rattle.records.specs.declared.NodesRead.{NodesRead}
@@ -112,10 +112,6 @@ labelReachOf (flag.Refused r) s = reach.Refused r
 abbrev pub labelReach : List ℕ → Reach
 labelReach s = labelReachOf (flagOf s) s
 
--- the bytes of the second of two lists
-unfoldable pub secondList : List ℕ → List ℕ
-secondList s = spanned (listOf (past (listOf s) s)) (past (listOf s) s)
-
 -- the answer of a walk over the nodes of a choice, by whether they leave
 unfoldable pub nodesOf : Bool → Walk → NodesRead
 nodesOf leaves (walk.Done n) = nodes-read.Done n leaves
@@ -151,7 +147,7 @@ payloadLeaves b payload = isChoice b && endWithDivert (choiceBody payload)
 unfoldable pub lastSlot : ℕ → ℕ
 lastSlot n = (n + 4294967295) % 2 ^ 64 % 4294967296
 
--- the buffer, its number in the slot with the bit of a choice that leaves
+-- the buffer, 64 added in the mark of its number in the slot: the bit of a choice that leaves, where it was off
 unfoldable pub leavesAt : ℕ → List ℕ → List ℕ
 leavesAt slot out = set out slot ((getD out slot 0 + 67108864) % 2 ^ 32)
 
@@ -165,7 +161,7 @@ unfoldable pub nodesWalk : NodesRead → Walk
 nodesWalk (nodes-read.Done n leaves) = walk.Done n
 nodesWalk (nodes-read.Refused r) = walk.Refused r
 
--- the buffer after a choice, by the answer of its nodes and the counts before them
+-- the buffer after a choice, by the answer of its nodes and the counts before its conditions and nodes
 unfoldable pub nodesPut : NodesRead → ℕ → List ℕ → List ℕ
 nodesPut (nodes-read.Done m leaves) n out = putLeaves leaves n out
 nodesPut (nodes-read.Refused r) n out = out
@@ -217,7 +213,7 @@ abbrev pub itemsOf : ℕ → Trace → List Item
 itemsOf base t = map itemOf (met base t)
 
 -- answer and buffer of a walk over t, whose bytes stand at base, where so many records were kept and met before it: the numbers where
--- reading ended well
+-- reading ended well, and in any case as long as before
 pub record Walked (t : Trace) (base kept all : ℕ) (before : List ℕ) (w : Walk) (after : List ℕ) : Type 0 where
   pub answer : w ≡ walked (ends t) (counts (kept + length (keptOf (itemsOf base t))) (all + length (itemsOf base t)))
   pub written : ends t ≡ well → after ≡ fill kept (keptOf (itemsOf base t)) before

@@ -6,8 +6,8 @@ ghost use Rattle.fields.specs.declared.Role.the-variants as Role;
 ghost use Rattle.records.specs.Grammar.{recordOf, records, exact, ending, repeat, front, listed, named, flagged, last, orElse, arms, options, bodyOf, nothing, tested, branch, moded};
 ghost use lib.Dec.{eqb};
 ghost use Rattle.fields.specs.Bytes.{pick, listOf};
-ghost use Rattle.records.specs.Items.{sortOf, leaving, leaves, spanned, choiceBody, endWithDivert};
-ghost use Rattle.records.specs.Work.{run, st, keeping, Told, pieceOf, ToldTo, headEnd, listEnd, testEnd, branchEnd, endOf, labelReach, secondList, ToldNodes, nodesEnd, payloadLeaves, putLeaves, nodesWalk, nodesPut};
+ghost use Rattle.records.specs.Items.{sortOf, leaving, leaves, spanned, secondList, choiceBody, endWithDivert};
+ghost use Rattle.records.specs.Work.{run, st, keeping, Told, pieceOf, ToldTo, headEnd, listEnd, testEnd, branchEnd, endOf, labelReach, ToldNodes, nodesEnd, payloadLeaves, putLeaves, nodesWalk, nodesPut};
 use crate::LEAVES;
 use crate::MET;
 use crate::NodesRead;
@@ -130,7 +130,7 @@ fn nodes_end(nodes: NodesRead, rest: &[u8]) -> NodesRead
     nodes
 }
 
-// The answer of a choice, by that of its nodes. Where they leave, the number that was kept last before them gets the bit for it.
+// The answer of a choice, by that of its nodes. Where they leave, its own number, the one kept last at the counts n, gets the bit for it.
 fn put_leaves(nodes: NodesRead, out: &mut [u32], n: usize) -> Walk
     ensures { λ r. ⌜ (r ≡ nodesWalk nodes) × (now (out .exit) ≡ nodesPut nodes n (now (out .entry))) ⌝ }
 {
@@ -364,7 +364,7 @@ fn lists(s: &[u8], base: usize, left: usize, out: &mut [u32], n: usize) -> Walk
     Walk::Done(count)
 }
 
-// A choice: a label, conditions and nodes. Where the nodes leave, its number, which was kept last, gets the bit for it.
+// A choice: a label, conditions and nodes. Where the nodes leave, its number, the one kept last before it is read, gets the bit for it.
 fn choice(s: &[u8], base: usize, left: usize, out: &mut [u32], n: usize) -> Walk
     requires { ⌜ base + length (now s) < 2 ^ 20 ⌝ }
     ensures { λ r. ⌜ Told (run keeping base (st (putLeaves (endWithDivert (choiceBody (now (s .entry)))) n (now (out .entry))) n) (flagged (options (recordOf left)) (named (options (recordOf left))) (now (s .entry)))) r (now (out .exit)) ⌝ }
@@ -406,14 +406,14 @@ fn choice_nodes(s: &[u8], base: usize, left: usize, out: &mut [u32], n: usize) -
     match reach {
         Reach::Refused(r) => NodesRead::Refused(r),
         Reach::To(e) => {
-            let nodes = leaving(&s[4..e], base + 4, left, out, n);
+            let nodes = last_leaves(&s[4..e], base + 4, left, out, n);
             nodes_end(nodes, &s[e..])
         }
     }
 }
 
-// Nodes of a choice to the end, and whether they leave.
-fn leaving(s: &[u8], base: usize, left: usize, out: &mut [u32], n: usize) -> NodesRead
+// Nodes of a choice to the end, and whether they leave: the last that is no Newline does.
+fn last_leaves(s: &[u8], base: usize, left: usize, out: &mut [u32], n: usize) -> NodesRead
     requires { ⌜ base + length (now s) < 2 ^ 20 ⌝ }
     ensures { λ r. ⌜ ToldNodes (run keeping base (st (now (out .entry)) n) (records (recordOf left Role.Node) (now (s .entry)))) (endWithDivert (now (s .entry))) r (now (out .exit)) ⌝ }
 {

@@ -10,7 +10,7 @@ use Rattle.names.specs.Words.{_∈_}
 use Rattle.records.specs.Trace.{andThen, shift, Record, met, well, ends}
 use Rattle.records.specs.Grammar.{frontAt, ending, repeatN, repeat, exact, pieceAt, namedAt, flaggedAt, last, orElse, arms, options, bodyOf, whole, recordOf, nodes}
 use Rattle.story.specs.Story.{Story}
-use Rattle.records.specs.Items.{sortOf, inBranch, endingAt, endingN, endWithDivert, spanned, past, unlabelled, choiceBody, leaves, whatOf, itemAs, itemOf}
+use Rattle.records.specs.Items.{sortOf, inBranch, endingAt, endingN, endWithDivert, spanned, past, unlabelled, secondList, choiceBody, leaves, whatOf, itemAs, itemOf}
 use Rattle.story.specs.Flows.{names, flows, part}
 use Rattle.story.specs.File.{marked, startAt, openedOf, sectionsRead, readEnded, readAt, readOf}
 use Rattle.rules.specs.Rules.{root}
@@ -63,7 +63,7 @@ record Examples : Type 0 where
   readable : Readable file
 
 examples : Examples
-unfolding diverted tunnelled conditional file first second headOf listOf nameOf flagOf nodeKind condKind kindOf andThen shift met ends frontAt ending repeatN repeat exact pieceAt namedAt flaggedAt last orElse arms options bodyOf whole recordOf nodes sortOf inBranch endingAt endingN endWithDivert spanned past unlabelled choiceBody leaves whatOf itemAs itemOf names flows part marked startAt openedOf sectionsRead readEnded readAt readOf Broken
+unfolding diverted tunnelled conditional file first second headOf listOf nameOf flagOf nodeKind condKind kindOf andThen shift met ends frontAt ending repeatN repeat exact pieceAt namedAt flaggedAt last orElse arms options bodyOf whole recordOf nodes sortOf inBranch endingAt endingN endWithDivert spanned past unlabelled secondList choiceBody leaves whatOf itemAs itemOf names flows part marked startAt openedOf sectionsRead readEnded readAt readOf Broken
 examples = record {
   payload-well = refl;
   lists = choice-read (recordOf 1) diverted refl;

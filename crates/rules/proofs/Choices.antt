@@ -25,7 +25,7 @@ use Rattle.records.specs.Trace.{Trace, andThen, shift, Record, met, well, ends}
 use Rattle.records.specs.Grammar.{Reading, Reader, frontAt, front, ending, records, pieceAt, listed, namedAt, flaggedAt, last, options, bodyOf, recordOf, nodes}
 use Rattle.records.proofs.Traces.{shift-shift, then-done, shift-done}
 use Rattle.records.proofs.Readings.{front-local, repeat-step}
-use Rattle.records.specs.Items.{Kind, plain, temp, divert, tunnel, thread, call, variable, argument, choice, gather, parameter, stitchName, flowStart, code, What, Item, sortOf, leaving, endingAt, endingN, endWithDivert, spanned, past, unlabelled, choiceBody, leaves, whatOf, itemAs, itemOf}
+use Rattle.records.specs.Items.{Kind, plain, temp, divert, tunnel, thread, call, variable, argument, choice, gather, parameter, stitchName, flowStart, code, What, Item, sortOf, leaving, endingAt, endingN, endWithDivert, spanned, past, unlabelled, secondList, choiceBody, leaves, whatOf, itemAs, itemOf}
 use Rattle.story.specs.Story.{Story}
 use Rattle.story.proofs.Endings.{ends-then, ends-shift, second-well}
 use Rattle.story.proofs.WellInside.{record-bears}
@@ -137,7 +137,7 @@ label-then s rest (inr h) =
     rw (flag-on s (h .0), count, two, ← drop-drop (1 + n) 1 s) (sym (h .1 .2))
 
 pub body-second : (payload conditions inside : List ℕ) → ChoiceOf payload conditions inside → choiceBody payload ≡ inside
-unfolding choiceBody past spanned
+unfolding choiceBody secondList past spanned
 body-second payload conditions inside c =
     rw (label-then payload (c .lists) (c .label), c .first .1, ← c .first .3, c .second .1) (sym (c .second .2))
 

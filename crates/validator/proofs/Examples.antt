@@ -16,7 +16,7 @@ use Rattle.names.specs.Counted.{nameAt}
 use Rattle.names.specs.Reserved.{builtins}
 use Rattle.records.specs.Trace.{andThen, shift, met, ends}
 use Rattle.records.specs.Grammar.{frontAt, ending, repeatN, repeat, exact, pieceAt, namedAt, flaggedAt, moded, last, orElse, arms, options, tested, branch, bodyOf, whole, tooDeep, recordOf, nodes}
-use Rattle.records.specs.Items.{nameIn, sortOf, nameStart, nameless, recordName, labelled as isLabelled, inBranch, endingAt, endingN, endWithDivert, spanned, past, unlabelled, choiceBody, leaves, whatOf, itemAs, itemOf, itemsAs, itemsIn}
+use Rattle.records.specs.Items.{nameIn, sortOf, nameStart, nameless, recordName, labelled as isLabelled, inBranch, endingAt, endingN, endWithDivert, spanned, past, unlabelled, secondList, choiceBody, leaves, whatOf, itemAs, itemOf, itemsAs, itemsIn}
 use Rattle.story.specs.Headings.{reachAt, namesReach, countedReach, listAt, marksAt, paramsAt, nameThen, headingOf}
 use Rattle.story.specs.Flows.{names, namesThen, counted, titled, stitch, flow, flows, namesN, namesIn, countedIn, part, titledAt, titledIn, piecesAt, piecesN, piecesIn, stitchIn, titleEnd, flowIn, flowsIn}
 use Rattle.story.specs.File.{marked, startAt, openedOf, sectionsRead, readEnded, readAt, readOf, storyIn}
@@ -236,7 +236,7 @@ pub record Examples : Type 0 where
   pub each-refusal : map reported refusals ≡ map (λ (r : Row). r .report) refusals
 
 pub examples : Examples
-unfolding reported digit hex row table neighbours headed negated rooted refusal refusals headOf listOf nameOf flagOf exprKind condKind nodeKind kindOf refusalNumber nameAt builtins andThen shift met ends frontAt ending repeatN repeat exact pieceAt namedAt flaggedAt moded last orElse arms options tested branch bodyOf whole tooDeep recordOf nodes nameIn sortOf nameStart nameless recordName isLabelled inBranch endingAt endingN endWithDivert spanned past unlabelled choiceBody leaves whatOf itemAs itemOf itemsAs itemsIn reachAt namesReach countedReach listAt marksAt paramsAt nameThen headingOf names namesThen counted titled stitch flow flows namesN namesIn countedIn part titledAt titledIn piecesAt piecesN piecesIn stitchIn titleEnd flowIn flowsIn marked startAt openedOf sectionsRead readEnded readAt readOf storyIn labelled stitchEntries flowEntries entries numbers broken known here over stitchRuns flowRuns runs breaches verdict message judgedOf textOf storyReport reportAt reportOf
+unfolding reported digit hex row table neighbours headed negated rooted refusal refusals headOf listOf nameOf flagOf exprKind condKind nodeKind kindOf refusalNumber nameAt builtins andThen shift met ends frontAt ending repeatN repeat exact pieceAt namedAt flaggedAt moded last orElse arms options tested branch bodyOf whole tooDeep recordOf nodes nameIn sortOf nameStart nameless recordName isLabelled inBranch endingAt endingN endWithDivert spanned past unlabelled secondList choiceBody leaves whatOf itemAs itemOf itemsAs itemsIn reachAt namesReach countedReach listAt marksAt paramsAt nameThen headingOf names namesThen counted titled stitch flow flows namesN namesIn countedIn part titledAt titledIn piecesAt piecesN piecesIn stitchIn titleEnd flowIn flowsIn marked startAt openedOf sectionsRead readEnded readAt readOf storyIn labelled stitchEntries flowEntries entries numbers broken known here over stitchRuns flowRuns runs breaches verdict message judgedOf textOf storyReport reportAt reportOf
 examples = record { p1-to-p10 = refl; beside-them = refl; each-refusal = refl }
 
 -- OF CHECKS: where a check is lent a row's file and buffers of its lengths, it answers and leaves what the row has

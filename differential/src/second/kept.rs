@@ -83,7 +83,7 @@ fn has_label(record: &Record) -> bool {
     is_node(record, &[15]) || is_node(record, &[14]) && record.first == Some(1)
 }
 
-/// A choice whose body's last node that is no Newline is of kinds 3, 6, 7, 11 or 12: by the heads of the nodes, as far as they fit, whatever is in them.
+/// A choice whose body's last node that is no Newline is of kinds 3, 6, 7, 11 or 12.
 fn leaves(file: &[u8], record: &Record) -> bool {
     is_node(record, &[14]) && choice_body(file, record).is_some_and(last_leaves)
 }

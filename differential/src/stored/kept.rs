@@ -172,12 +172,19 @@ fn expressions_in_nodes() -> Vec<Vec<u8>> {
         record(8, &conditional(one, &gather(), None))
     });
     put(conditions(), &|one| {
-        record(14, &choice(None, &[one, one].concat(), &gather()))
+        record(
+            14,
+            &choice(
+                None,
+                &[one, one].concat(),
+                &[gather(), record(6, &[])].concat(),
+            ),
+        )
     });
     in_bodies(places.iter().map(|place| place.concat()).collect())
 }
 
-/// Choices with each node last in their body, alone, before Newlines and behind a node that leaves; and with a body that is refused there.
+/// Choices with each node last in their body, alone, before Newlines and behind a node that leaves.
 fn bodies_of_choices() -> Vec<Vec<u8>> {
     let mut bodies = Vec::new();
     for (kind, payload) in nodes() {
@@ -191,12 +198,6 @@ fn bodies_of_choices() -> Vec<Vec<u8>> {
             ends.map(|end| record(14, &choice(None, &[], &end)))
                 .concat(),
         );
-        let refused = [record(10, &[0]), record(kind, &[]), newline()].concat();
-        bodies.push(record(14, &choice(Some(b"c"), &[], &refused)));
-        bodies.push(record(
-            14,
-            &choice(None, &[], &[&refused[..], &[3, 0]].concat()),
-        ));
     }
     in_bodies(bodies)
 }

@@ -10,8 +10,8 @@ use Rattle.records.proofs.Walking.{sized-refused}
 use Rattle.records.proofs.PiecesRead.{piece-refused, list-answers}
 use borrow.Author.Needs.{needs}
 use Rattle.records.proofs.walker.front_list.Reads as walk-front-list
-use Rattle.records.proofs.walker.+arms+assign+body+branch+branches+call+choice+choice_nodes+conditional+else_arm+exact+first+front_list+last+leaving+list+lists+options+record+set+switch+test.Lts-front_list as lts
-use Rattle.records.proofs.walker.+arms+assign+body+branch+branches+call+choice+choice_nodes+conditional+else_arm+exact+first+front_list+last+leaving+list+lists+options+record+set+switch+test.Proof.Base.{walk-front-list-at, walk-front-list-uses}
+use Rattle.records.proofs.walker.+arms+assign+body+branch+branches+call+choice+choice_nodes+conditional+else_arm+exact+first+front_list+last+last_leaves+list+lists+options+record+set+switch+test.Lts-front_list as lts
+use Rattle.records.proofs.walker.+arms+assign+body+branch+branches+call+choice+choice_nodes+conditional+else_arm+exact+first+front_list+last+last_leaves+list+lists+options+record+set+switch+test.Proof.Base.{walk-front-list-at, walk-front-list-uses}
 
 module _ (t : ℕ) where
   fits : (c : lts.After-known-told2 (walk-front-list-uses t) (walk-front-list-at t) walk-front-list.Post) → (4 ≤ c .before .reach2 .given .0 .0) × (c .before .reach2 .given .0 .0 ≤ length (c .before .before .before .before .before .before .args .s .now))

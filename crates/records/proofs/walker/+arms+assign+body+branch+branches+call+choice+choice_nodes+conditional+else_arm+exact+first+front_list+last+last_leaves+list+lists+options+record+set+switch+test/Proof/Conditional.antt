@@ -8,8 +8,8 @@ use Rattle.records.specs.Work.{st, keeping}
 use Rattle.records.proofs.PiecesRead.{first-fits, first-on, first-else}
 use borrow.Author.Needs.{needs}
 use Rattle.records.proofs.walker.conditional.Reads as walk-conditional
-use Rattle.records.proofs.walker.+arms+assign+body+branch+branches+call+choice+choice_nodes+conditional+else_arm+exact+first+front_list+last+leaving+list+lists+options+record+set+switch+test.Lts-conditional as lts
-use Rattle.records.proofs.walker.+arms+assign+body+branch+branches+call+choice+choice_nodes+conditional+else_arm+exact+first+front_list+last+leaving+list+lists+options+record+set+switch+test.Proof.Base.{walk-conditional-at, walk-conditional-uses}
+use Rattle.records.proofs.walker.+arms+assign+body+branch+branches+call+choice+choice_nodes+conditional+else_arm+exact+first+front_list+last+last_leaves+list+lists+options+record+set+switch+test.Lts-conditional as lts
+use Rattle.records.proofs.walker.+arms+assign+body+branch+branches+call+choice+choice_nodes+conditional+else_arm+exact+first+front_list+last+last_leaves+list+lists+options+record+set+switch+test.Proof.Base.{walk-conditional-at, walk-conditional-uses}
 
 module _ (t : ℕ) where
   piece-requires : lts.Need-first-requires (walk-conditional-uses t) (walk-conditional-at t) walk-conditional.Post

@@ -8,8 +8,8 @@ use Rattle.records.specs.Work.{st, keeping}
 use Rattle.records.proofs.Walking.{named-refused, named-none, named-on}
 use borrow.Author.Needs.{needs}
 use Rattle.records.proofs.walker.call.Reads as walk-call
-use Rattle.records.proofs.walker.+arms+assign+body+branch+branches+call+choice+choice_nodes+conditional+else_arm+exact+first+front_list+last+leaving+list+lists+options+record+set+switch+test.Lts-call as lts
-use Rattle.records.proofs.walker.+arms+assign+body+branch+branches+call+choice+choice_nodes+conditional+else_arm+exact+first+front_list+last+leaving+list+lists+options+record+set+switch+test.Proof.Base.{walk-call-at, walk-call-uses}
+use Rattle.records.proofs.walker.+arms+assign+body+branch+branches+call+choice+choice_nodes+conditional+else_arm+exact+first+front_list+last+last_leaves+list+lists+options+record+set+switch+test.Lts-call as lts
+use Rattle.records.proofs.walker.+arms+assign+body+branch+branches+call+choice+choice_nodes+conditional+else_arm+exact+first+front_list+last+last_leaves+list+lists+options+record+set+switch+test.Proof.Base.{walk-call-at, walk-call-uses}
 
 module _ (t : ℕ) where
   fits : (c : lts.After-known-told2 (walk-call-uses t) (walk-call-at t) walk-call.Post) → (1 ≤ c .before .reach2 .given .0 .0) × (c .before .reach2 .given .0 .0 ≤ length (c .before .before .before .before .before .before .args .s .now))

@@ -9,8 +9,8 @@ use Rattle.records.specs.Grammar.{recordOf, ending, last, orElse}
 use Rattle.records.proofs.Walking.{flagged-refused, flagged-off, flagged-on, told-end}
 use borrow.Author.Needs.{needs}
 use Rattle.records.proofs.walker.else_arm.Reads as walk-else
-use Rattle.records.proofs.walker.+arms+assign+body+branch+branches+call+choice+choice_nodes+conditional+else_arm+exact+first+front_list+last+leaving+list+lists+options+record+set+switch+test.Lts-else_arm as lts
-use Rattle.records.proofs.walker.+arms+assign+body+branch+branches+call+choice+choice_nodes+conditional+else_arm+exact+first+front_list+last+leaving+list+lists+options+record+set+switch+test.Proof.Base.{walk-else-at, walk-else-uses}
+use Rattle.records.proofs.walker.+arms+assign+body+branch+branches+call+choice+choice_nodes+conditional+else_arm+exact+first+front_list+last+last_leaves+list+lists+options+record+set+switch+test.Lts-else_arm as lts
+use Rattle.records.proofs.walker.+arms+assign+body+branch+branches+call+choice+choice_nodes+conditional+else_arm+exact+first+front_list+last+last_leaves+list+lists+options+record+set+switch+test.Proof.Base.{walk-else-at, walk-else-uses}
 
 module _ (t : ℕ) where
   off : (c : lts.After-enum-told (walk-else-uses t) (walk-else-at t) walk-else.Post) → 1 ≤ length (c .before .before .before .before .before .args .s .now)

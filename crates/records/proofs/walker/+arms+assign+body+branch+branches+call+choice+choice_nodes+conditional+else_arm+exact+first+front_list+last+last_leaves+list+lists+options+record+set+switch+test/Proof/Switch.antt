@@ -8,8 +8,8 @@ use Rattle.records.specs.Work.{st, keeping}
 use Rattle.records.proofs.PiecesRead.{first-fits, first-on, first-else}
 use borrow.Author.Needs.{needs}
 use Rattle.records.proofs.walker.switch.Reads as walk-switch
-use Rattle.records.proofs.walker.+arms+assign+body+branch+branches+call+choice+choice_nodes+conditional+else_arm+exact+first+front_list+last+leaving+list+lists+options+record+set+switch+test.Lts-switch as lts
-use Rattle.records.proofs.walker.+arms+assign+body+branch+branches+call+choice+choice_nodes+conditional+else_arm+exact+first+front_list+last+leaving+list+lists+options+record+set+switch+test.Proof.Base.{walk-switch-at, walk-switch-uses}
+use Rattle.records.proofs.walker.+arms+assign+body+branch+branches+call+choice+choice_nodes+conditional+else_arm+exact+first+front_list+last+last_leaves+list+lists+options+record+set+switch+test.Lts-switch as lts
+use Rattle.records.proofs.walker.+arms+assign+body+branch+branches+call+choice+choice_nodes+conditional+else_arm+exact+first+front_list+last+last_leaves+list+lists+options+record+set+switch+test.Proof.Base.{walk-switch-at, walk-switch-uses}
 
 module _ (t : ℕ) where
   piece-requires : lts.Need-first-requires (walk-switch-uses t) (walk-switch-at t) walk-switch.Post

@@ -5,8 +5,8 @@ use Rattle.records.specs.Grammar.{bodyOf}
 use Rattle.records.specs.Work.{isChoice, payloadLeaves, putLeaves}
 use borrow.Author.Needs.{needs}
 use Rattle.records.proofs.walker.body.Reads as walk-body
-use Rattle.records.proofs.walker.+arms+assign+body+branch+branches+call+choice+choice_nodes+conditional+else_arm+exact+first+front_list+last+leaving+list+lists+options+record+set+switch+test.Lts-body as lts
-use Rattle.records.proofs.walker.+arms+assign+body+branch+branches+call+choice+choice_nodes+conditional+else_arm+exact+first+front_list+last+leaving+list+lists+options+record+set+switch+test.Proof.Base.{walk-body-at, walk-body-uses}
+use Rattle.records.proofs.walker.+arms+assign+body+branch+branches+call+choice+choice_nodes+conditional+else_arm+exact+first+front_list+last+last_leaves+list+lists+options+record+set+switch+test.Lts-body as lts
+use Rattle.records.proofs.walker.+arms+assign+body+branch+branches+call+choice+choice_nodes+conditional+else_arm+exact+first+front_list+last+last_leaves+list+lists+options+record+set+switch+test.Proof.Base.{walk-body-at, walk-body-uses}
 
 module _ (t : ℕ) where
   exact-requires : lts.Need-exact-requires (walk-body-uses t) (walk-body-at t) walk-body.Post

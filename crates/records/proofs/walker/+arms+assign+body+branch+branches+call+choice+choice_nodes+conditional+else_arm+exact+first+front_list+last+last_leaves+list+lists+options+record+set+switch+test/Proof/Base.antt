@@ -6,70 +6,70 @@ use borrow.Fn.Kinds.{In}
 use borrow.Fn.PlainCycle.{Measures, is, falls, and}
 use Rattle.records.proofs.walker.arms.Reads as walk-arms
 use Rattle.records.proofs.walker.arms.Kinds as walk-arms-kinds
-use Rattle.records.proofs.walker.+arms+assign+body+branch+branches+call+choice+choice_nodes+conditional+else_arm+exact+first+front_list+last+leaving+list+lists+options+record+set+switch+test.Lts-arms as walk-arms-lts
+use Rattle.records.proofs.walker.+arms+assign+body+branch+branches+call+choice+choice_nodes+conditional+else_arm+exact+first+front_list+last+last_leaves+list+lists+options+record+set+switch+test.Lts-arms as walk-arms-lts
 use Rattle.records.proofs.walker.assign.Reads as walk-assign
 use Rattle.records.proofs.walker.assign.Kinds as walk-assign-kinds
-use Rattle.records.proofs.walker.+arms+assign+body+branch+branches+call+choice+choice_nodes+conditional+else_arm+exact+first+front_list+last+leaving+list+lists+options+record+set+switch+test.Lts-assign as walk-assign-lts
+use Rattle.records.proofs.walker.+arms+assign+body+branch+branches+call+choice+choice_nodes+conditional+else_arm+exact+first+front_list+last+last_leaves+list+lists+options+record+set+switch+test.Lts-assign as walk-assign-lts
 use Rattle.records.proofs.walker.body.Reads as walk-body
 use Rattle.records.proofs.walker.body.Kinds as walk-body-kinds
-use Rattle.records.proofs.walker.+arms+assign+body+branch+branches+call+choice+choice_nodes+conditional+else_arm+exact+first+front_list+last+leaving+list+lists+options+record+set+switch+test.Lts-body as walk-body-lts
+use Rattle.records.proofs.walker.+arms+assign+body+branch+branches+call+choice+choice_nodes+conditional+else_arm+exact+first+front_list+last+last_leaves+list+lists+options+record+set+switch+test.Lts-body as walk-body-lts
 use Rattle.records.proofs.walker.branch.Reads as walk-branch
 use Rattle.records.proofs.walker.branch.Kinds as walk-branch-kinds
-use Rattle.records.proofs.walker.+arms+assign+body+branch+branches+call+choice+choice_nodes+conditional+else_arm+exact+first+front_list+last+leaving+list+lists+options+record+set+switch+test.Lts-branch as walk-branch-lts
+use Rattle.records.proofs.walker.+arms+assign+body+branch+branches+call+choice+choice_nodes+conditional+else_arm+exact+first+front_list+last+last_leaves+list+lists+options+record+set+switch+test.Lts-branch as walk-branch-lts
 use Rattle.records.proofs.walker.branches.Reads as walk-branches
 use Rattle.records.proofs.walker.branches.Kinds as walk-branches-kinds
-use Rattle.records.proofs.walker.+arms+assign+body+branch+branches+call+choice+choice_nodes+conditional+else_arm+exact+first+front_list+last+leaving+list+lists+options+record+set+switch+test.Lts-branches as walk-branches-lts
+use Rattle.records.proofs.walker.+arms+assign+body+branch+branches+call+choice+choice_nodes+conditional+else_arm+exact+first+front_list+last+last_leaves+list+lists+options+record+set+switch+test.Lts-branches as walk-branches-lts
 use Rattle.records.proofs.walker.call.Reads as walk-call
 use Rattle.records.proofs.walker.call.Kinds as walk-call-kinds
-use Rattle.records.proofs.walker.+arms+assign+body+branch+branches+call+choice+choice_nodes+conditional+else_arm+exact+first+front_list+last+leaving+list+lists+options+record+set+switch+test.Lts-call as walk-call-lts
+use Rattle.records.proofs.walker.+arms+assign+body+branch+branches+call+choice+choice_nodes+conditional+else_arm+exact+first+front_list+last+last_leaves+list+lists+options+record+set+switch+test.Lts-call as walk-call-lts
 use Rattle.records.proofs.walker.choice.Reads as walk-choice
 use Rattle.records.proofs.walker.choice.Kinds as walk-choice-kinds
-use Rattle.records.proofs.walker.+arms+assign+body+branch+branches+call+choice+choice_nodes+conditional+else_arm+exact+first+front_list+last+leaving+list+lists+options+record+set+switch+test.Lts-choice as walk-choice-lts
+use Rattle.records.proofs.walker.+arms+assign+body+branch+branches+call+choice+choice_nodes+conditional+else_arm+exact+first+front_list+last+last_leaves+list+lists+options+record+set+switch+test.Lts-choice as walk-choice-lts
 use Rattle.records.proofs.walker.choice_nodes.Reads as walk-choice-nodes
 use Rattle.records.proofs.walker.choice_nodes.Kinds as walk-choice-nodes-kinds
-use Rattle.records.proofs.walker.+arms+assign+body+branch+branches+call+choice+choice_nodes+conditional+else_arm+exact+first+front_list+last+leaving+list+lists+options+record+set+switch+test.Lts-choice_nodes as walk-choice-nodes-lts
+use Rattle.records.proofs.walker.+arms+assign+body+branch+branches+call+choice+choice_nodes+conditional+else_arm+exact+first+front_list+last+last_leaves+list+lists+options+record+set+switch+test.Lts-choice_nodes as walk-choice-nodes-lts
 use Rattle.records.proofs.walker.conditional.Reads as walk-conditional
 use Rattle.records.proofs.walker.conditional.Kinds as walk-conditional-kinds
-use Rattle.records.proofs.walker.+arms+assign+body+branch+branches+call+choice+choice_nodes+conditional+else_arm+exact+first+front_list+last+leaving+list+lists+options+record+set+switch+test.Lts-conditional as walk-conditional-lts
+use Rattle.records.proofs.walker.+arms+assign+body+branch+branches+call+choice+choice_nodes+conditional+else_arm+exact+first+front_list+last+last_leaves+list+lists+options+record+set+switch+test.Lts-conditional as walk-conditional-lts
 use Rattle.records.proofs.walker.else_arm.Reads as walk-else
 use Rattle.records.proofs.walker.else_arm.Kinds as walk-else-kinds
-use Rattle.records.proofs.walker.+arms+assign+body+branch+branches+call+choice+choice_nodes+conditional+else_arm+exact+first+front_list+last+leaving+list+lists+options+record+set+switch+test.Lts-else_arm as walk-else-lts
+use Rattle.records.proofs.walker.+arms+assign+body+branch+branches+call+choice+choice_nodes+conditional+else_arm+exact+first+front_list+last+last_leaves+list+lists+options+record+set+switch+test.Lts-else_arm as walk-else-lts
 use Rattle.records.proofs.walker.exact.Reads as walk-exact
 use Rattle.records.proofs.walker.exact.Kinds as walk-exact-kinds
-use Rattle.records.proofs.walker.+arms+assign+body+branch+branches+call+choice+choice_nodes+conditional+else_arm+exact+first+front_list+last+leaving+list+lists+options+record+set+switch+test.Lts-exact as walk-exact-lts
+use Rattle.records.proofs.walker.+arms+assign+body+branch+branches+call+choice+choice_nodes+conditional+else_arm+exact+first+front_list+last+last_leaves+list+lists+options+record+set+switch+test.Lts-exact as walk-exact-lts
 use Rattle.records.proofs.walker.first.Reads as walk-first
 use Rattle.records.proofs.walker.first.Kinds as walk-first-kinds
-use Rattle.records.proofs.walker.+arms+assign+body+branch+branches+call+choice+choice_nodes+conditional+else_arm+exact+first+front_list+last+leaving+list+lists+options+record+set+switch+test.Lts-first as walk-first-lts
+use Rattle.records.proofs.walker.+arms+assign+body+branch+branches+call+choice+choice_nodes+conditional+else_arm+exact+first+front_list+last+last_leaves+list+lists+options+record+set+switch+test.Lts-first as walk-first-lts
 use Rattle.records.proofs.walker.front_list.Reads as walk-front-list
 use Rattle.records.proofs.walker.front_list.Kinds as walk-front-list-kinds
-use Rattle.records.proofs.walker.+arms+assign+body+branch+branches+call+choice+choice_nodes+conditional+else_arm+exact+first+front_list+last+leaving+list+lists+options+record+set+switch+test.Lts-front_list as walk-front-list-lts
+use Rattle.records.proofs.walker.+arms+assign+body+branch+branches+call+choice+choice_nodes+conditional+else_arm+exact+first+front_list+last+last_leaves+list+lists+options+record+set+switch+test.Lts-front_list as walk-front-list-lts
 use Rattle.records.proofs.walker.last.Reads as walk-last
 use Rattle.records.proofs.walker.last.Kinds as walk-last-kinds
-use Rattle.records.proofs.walker.+arms+assign+body+branch+branches+call+choice+choice_nodes+conditional+else_arm+exact+first+front_list+last+leaving+list+lists+options+record+set+switch+test.Lts-last as walk-last-lts
-use Rattle.records.proofs.walker.leaving.Reads as walk-leaving
-use Rattle.records.proofs.walker.leaving.Kinds as walk-leaving-kinds
-use Rattle.records.proofs.walker.+arms+assign+body+branch+branches+call+choice+choice_nodes+conditional+else_arm+exact+first+front_list+last+leaving+list+lists+options+record+set+switch+test.Lts-leaving as walk-leaving-lts
+use Rattle.records.proofs.walker.+arms+assign+body+branch+branches+call+choice+choice_nodes+conditional+else_arm+exact+first+front_list+last+last_leaves+list+lists+options+record+set+switch+test.Lts-last as walk-last-lts
+use Rattle.records.proofs.walker.last_leaves.Reads as walk-last-leaves
+use Rattle.records.proofs.walker.last_leaves.Kinds as walk-last-leaves-kinds
+use Rattle.records.proofs.walker.+arms+assign+body+branch+branches+call+choice+choice_nodes+conditional+else_arm+exact+first+front_list+last+last_leaves+list+lists+options+record+set+switch+test.Lts-last_leaves as walk-last-leaves-lts
 use Rattle.records.proofs.walker.list.Reads as walk-list
 use Rattle.records.proofs.walker.list.Kinds as walk-list-kinds
-use Rattle.records.proofs.walker.+arms+assign+body+branch+branches+call+choice+choice_nodes+conditional+else_arm+exact+first+front_list+last+leaving+list+lists+options+record+set+switch+test.Lts-list as walk-list-lts
+use Rattle.records.proofs.walker.+arms+assign+body+branch+branches+call+choice+choice_nodes+conditional+else_arm+exact+first+front_list+last+last_leaves+list+lists+options+record+set+switch+test.Lts-list as walk-list-lts
 use Rattle.records.proofs.walker.lists.Reads as walk-lists
 use Rattle.records.proofs.walker.lists.Kinds as walk-lists-kinds
-use Rattle.records.proofs.walker.+arms+assign+body+branch+branches+call+choice+choice_nodes+conditional+else_arm+exact+first+front_list+last+leaving+list+lists+options+record+set+switch+test.Lts-lists as walk-lists-lts
+use Rattle.records.proofs.walker.+arms+assign+body+branch+branches+call+choice+choice_nodes+conditional+else_arm+exact+first+front_list+last+last_leaves+list+lists+options+record+set+switch+test.Lts-lists as walk-lists-lts
 use Rattle.records.proofs.walker.options.Reads as walk-options
 use Rattle.records.proofs.walker.options.Kinds as walk-options-kinds
-use Rattle.records.proofs.walker.+arms+assign+body+branch+branches+call+choice+choice_nodes+conditional+else_arm+exact+first+front_list+last+leaving+list+lists+options+record+set+switch+test.Lts-options as walk-options-lts
+use Rattle.records.proofs.walker.+arms+assign+body+branch+branches+call+choice+choice_nodes+conditional+else_arm+exact+first+front_list+last+last_leaves+list+lists+options+record+set+switch+test.Lts-options as walk-options-lts
 use Rattle.records.proofs.walker.record.Reads as walk-record
 use Rattle.records.proofs.walker.record.Kinds as walk-record-kinds
-use Rattle.records.proofs.walker.+arms+assign+body+branch+branches+call+choice+choice_nodes+conditional+else_arm+exact+first+front_list+last+leaving+list+lists+options+record+set+switch+test.Lts-record as walk-record-lts
+use Rattle.records.proofs.walker.+arms+assign+body+branch+branches+call+choice+choice_nodes+conditional+else_arm+exact+first+front_list+last+last_leaves+list+lists+options+record+set+switch+test.Lts-record as walk-record-lts
 use Rattle.records.proofs.walker.set.Reads as walk-set
 use Rattle.records.proofs.walker.set.Kinds as walk-set-kinds
-use Rattle.records.proofs.walker.+arms+assign+body+branch+branches+call+choice+choice_nodes+conditional+else_arm+exact+first+front_list+last+leaving+list+lists+options+record+set+switch+test.Lts-set as walk-set-lts
+use Rattle.records.proofs.walker.+arms+assign+body+branch+branches+call+choice+choice_nodes+conditional+else_arm+exact+first+front_list+last+last_leaves+list+lists+options+record+set+switch+test.Lts-set as walk-set-lts
 use Rattle.records.proofs.walker.switch.Reads as walk-switch
 use Rattle.records.proofs.walker.switch.Kinds as walk-switch-kinds
-use Rattle.records.proofs.walker.+arms+assign+body+branch+branches+call+choice+choice_nodes+conditional+else_arm+exact+first+front_list+last+leaving+list+lists+options+record+set+switch+test.Lts-switch as walk-switch-lts
+use Rattle.records.proofs.walker.+arms+assign+body+branch+branches+call+choice+choice_nodes+conditional+else_arm+exact+first+front_list+last+last_leaves+list+lists+options+record+set+switch+test.Lts-switch as walk-switch-lts
 use Rattle.records.proofs.walker.test.Reads as walk-test
 use Rattle.records.proofs.walker.test.Kinds as walk-test-kinds
-use Rattle.records.proofs.walker.+arms+assign+body+branch+branches+call+choice+choice_nodes+conditional+else_arm+exact+first+front_list+last+leaving+list+lists+options+record+set+switch+test.Lts-test as walk-test-lts
+use Rattle.records.proofs.walker.+arms+assign+body+branch+branches+call+choice+choice_nodes+conditional+else_arm+exact+first+front_list+last+last_leaves+list+lists+options+record+set+switch+test.Lts-test as walk-test-lts
 use Rattle.fields.proofs.read_flag.Reads as read-flag-reads
 use Rattle.fields.proofs.read_head.Reads as read-head-reads
 use Rattle.fields.proofs.read_kind.Reads as read-kind-reads
@@ -128,8 +128,8 @@ abbrev pub μ-walk-front-list : Measures 2 walk-front-list-kinds.ps ℕ
 abbrev pub μ-walk-last : Measures 2 walk-last-kinds.ps ℕ
 μ-walk-last κs a = 4 * length (a .0 .now) + 1
 
-abbrev pub μ-walk-leaving : Measures 2 walk-leaving-kinds.ps ℕ
-μ-walk-leaving κs a = 4 * length (a .0 .now) + 1
+abbrev pub μ-walk-last-leaves : Measures 2 walk-last-leaves-kinds.ps ℕ
+μ-walk-last-leaves κs a = 4 * length (a .0 .now) + 1
 
 abbrev pub μ-walk-list : Measures 2 walk-list-kinds.ps ℕ
 μ-walk-list κs a = 4 * length (a .0 .now) + 1
@@ -237,11 +237,11 @@ module _ (t : ℕ) where
   abbrev pub walk-last-below : In 2 walk-last-kinds.ps
   walk-last-below = and 2 walk-last-kinds.ps (falls 2 walk-last-kinds.ps _<_ μ-walk-last t) walk-last.Pre
 
-  abbrev pub walk-leaving-at : In 2 walk-leaving-kinds.ps
-  walk-leaving-at = and 2 walk-leaving-kinds.ps (is 2 walk-leaving-kinds.ps μ-walk-leaving t) walk-leaving.Pre
+  abbrev pub walk-last-leaves-at : In 2 walk-last-leaves-kinds.ps
+  walk-last-leaves-at = and 2 walk-last-leaves-kinds.ps (is 2 walk-last-leaves-kinds.ps μ-walk-last-leaves t) walk-last-leaves.Pre
 
-  abbrev pub walk-leaving-below : In 2 walk-leaving-kinds.ps
-  walk-leaving-below = and 2 walk-leaving-kinds.ps (falls 2 walk-leaving-kinds.ps _<_ μ-walk-leaving t) walk-leaving.Pre
+  abbrev pub walk-last-leaves-below : In 2 walk-last-leaves-kinds.ps
+  walk-last-leaves-below = and 2 walk-last-leaves-kinds.ps (falls 2 walk-last-leaves-kinds.ps _<_ μ-walk-last-leaves t) walk-last-leaves.Pre
 
   abbrev pub walk-list-at : In 2 walk-list-kinds.ps
   walk-list-at = and 2 walk-list-kinds.ps (is 2 walk-list-kinds.ps μ-walk-list t) walk-list.Pre
@@ -307,7 +307,7 @@ module _ (t : ℕ) where
   walk-choice-uses = (read-label-reads.Asked, read-label-reads.Learnt, walk-options-below, walk-options.Post, put-leaves-reads.Asked, put-leaves-reads.Learnt)
 
   abbrev pub walk-choice-nodes-uses : walk-choice-nodes-lts.Claims
-  walk-choice-nodes-uses = (read-list-reads.Asked, read-list-reads.Learnt, walk-leaving-below, walk-leaving.Post, nodes-end-reads.Asked, nodes-end-reads.Learnt)
+  walk-choice-nodes-uses = (read-list-reads.Asked, read-list-reads.Learnt, walk-last-leaves-below, walk-last-leaves.Post, nodes-end-reads.Asked, nodes-end-reads.Learnt)
 
   abbrev pub walk-conditional-uses : walk-conditional-lts.Claims
   walk-conditional-uses = (walk-first-below, walk-first.Post, walk-arms-below, walk-arms.Post)
@@ -327,8 +327,8 @@ module _ (t : ℕ) where
   abbrev pub walk-last-uses : walk-last-lts.Claims
   walk-last-uses = (read-list-reads.Asked, read-list-reads.Learnt, walk-list-below, walk-list.Post, at-end-reads.Asked, at-end-reads.Learnt)
 
-  abbrev pub walk-leaving-uses : walk-leaving-lts.Claims
-  walk-leaving-uses = (read-head-reads.Asked, read-head-reads.Learnt, leaves-after-reads.Asked, leaves-after-reads.Learnt, is-bare-reads.Asked, is-bare-reads.Learnt, wrapping-add-usize-reads.Asked, wrapping-add-usize-reads.Learnt, walk-record-below, walk-record.Post)
+  abbrev pub walk-last-leaves-uses : walk-last-leaves-lts.Claims
+  walk-last-leaves-uses = (read-head-reads.Asked, read-head-reads.Learnt, leaves-after-reads.Asked, leaves-after-reads.Learnt, is-bare-reads.Asked, is-bare-reads.Learnt, wrapping-add-usize-reads.Asked, wrapping-add-usize-reads.Learnt, walk-record-below, walk-record.Post)
 
   abbrev pub walk-list-uses : walk-list-lts.Claims
   walk-list-uses = (read-head-reads.Asked, read-head-reads.Learnt, is-bare-reads.Asked, is-bare-reads.Learnt, wrapping-add-usize-reads.Asked, wrapping-add-usize-reads.Learnt, walk-record-below, walk-record.Post)

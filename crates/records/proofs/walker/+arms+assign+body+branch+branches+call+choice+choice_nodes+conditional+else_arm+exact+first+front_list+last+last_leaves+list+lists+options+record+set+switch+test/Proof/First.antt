@@ -11,8 +11,8 @@ use Rattle.records.proofs.Walking.{front-refused}
 use Rattle.records.proofs.PiecesRead.{piece-refused, first-answers}
 use borrow.Author.Needs.{needs}
 use Rattle.records.proofs.walker.first.Reads as walk-first
-use Rattle.records.proofs.walker.+arms+assign+body+branch+branches+call+choice+choice_nodes+conditional+else_arm+exact+first+front_list+last+leaving+list+lists+options+record+set+switch+test.Lts-first as lts
-use Rattle.records.proofs.walker.+arms+assign+body+branch+branches+call+choice+choice_nodes+conditional+else_arm+exact+first+front_list+last+leaving+list+lists+options+record+set+switch+test.Proof.Base.{walk-first-at, walk-first-uses}
+use Rattle.records.proofs.walker.+arms+assign+body+branch+branches+call+choice+choice_nodes+conditional+else_arm+exact+first+front_list+last+last_leaves+list+lists+options+record+set+switch+test.Lts-first as lts
+use Rattle.records.proofs.walker.+arms+assign+body+branch+branches+call+choice+choice_nodes+conditional+else_arm+exact+first+front_list+last+last_leaves+list+lists+options+record+set+switch+test.Proof.Base.{walk-first-at, walk-first-uses}
 
 module _ (t : ℕ) where
   fits : (c : lts.After-known-told2 (walk-first-uses t) (walk-first-at t) walk-first.Post) → (5 ≤ c .before .head2 .given .0 .1 .0) × (c .before .head2 .given .0 .1 .0 ≤ length (c .before .before .before .before .before .before .args .s .now))

@@ -6,8 +6,8 @@ use Rattle.records.proofs.Walking.{record-none, record-deep}
 use Rattle.records.proofs.Choices.{record-noted}
 use borrow.Author.Needs.{needs}
 use Rattle.records.proofs.walker.record.Reads as walk-record
-use Rattle.records.proofs.walker.+arms+assign+body+branch+branches+call+choice+choice_nodes+conditional+else_arm+exact+first+front_list+last+leaving+list+lists+options+record+set+switch+test.Lts-record as lts
-use Rattle.records.proofs.walker.+arms+assign+body+branch+branches+call+choice+choice_nodes+conditional+else_arm+exact+first+front_list+last+leaving+list+lists+options+record+set+switch+test.Proof.Base.{walk-record-at, walk-record-uses}
+use Rattle.records.proofs.walker.+arms+assign+body+branch+branches+call+choice+choice_nodes+conditional+else_arm+exact+first+front_list+last+last_leaves+list+lists+options+record+set+switch+test.Lts-record as lts
+use Rattle.records.proofs.walker.+arms+assign+body+branch+branches+call+choice+choice_nodes+conditional+else_arm+exact+first+front_list+last+last_leaves+list+lists+options+record+set+switch+test.Proof.Base.{walk-record-at, walk-record-uses}
 
 module _ (t : ℕ) where
   unknown : lts.Need-returns (walk-record-uses t) (walk-record-at t) walk-record.Post

@@ -9,8 +9,8 @@ use Rattle.records.specs.Work.{st, keeping}
 use Rattle.records.proofs.Walking.{sized-refused, sized-else, sized-on, told-end}
 use borrow.Author.Needs.{needs}
 use Rattle.records.proofs.walker.last.Reads as walk-last
-use Rattle.records.proofs.walker.+arms+assign+body+branch+branches+call+choice+choice_nodes+conditional+else_arm+exact+first+front_list+last+leaving+list+lists+options+record+set+switch+test.Lts-last as lts
-use Rattle.records.proofs.walker.+arms+assign+body+branch+branches+call+choice+choice_nodes+conditional+else_arm+exact+first+front_list+last+leaving+list+lists+options+record+set+switch+test.Proof.Base.{walk-last-at, walk-last-uses}
+use Rattle.records.proofs.walker.+arms+assign+body+branch+branches+call+choice+choice_nodes+conditional+else_arm+exact+first+front_list+last+last_leaves+list+lists+options+record+set+switch+test.Lts-last as lts
+use Rattle.records.proofs.walker.+arms+assign+body+branch+branches+call+choice+choice_nodes+conditional+else_arm+exact+first+front_list+last+last_leaves+list+lists+options+record+set+switch+test.Proof.Base.{walk-last-at, walk-last-uses}
 
 module _ (t : ℕ) where
   fits : (c : lts.After-known-told2 (walk-last-uses t) (walk-last-at t) walk-last.Post) → (4 ≤ c .before .reach2 .given .0 .0) × (c .before .reach2 .given .0 .0 ≤ length (c .before .before .before .before .before .before .args .s .now))

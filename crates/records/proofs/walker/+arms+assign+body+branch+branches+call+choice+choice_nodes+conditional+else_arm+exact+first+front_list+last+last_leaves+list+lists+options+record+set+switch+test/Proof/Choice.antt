@@ -5,8 +5,8 @@ use lib.ListN.{length}
 use Rattle.records.proofs.Choices.{label-fits, choice-refused, choice-told}
 use borrow.Author.Needs.{needs}
 use Rattle.records.proofs.walker.choice.Reads as walk-choice
-use Rattle.records.proofs.walker.+arms+assign+body+branch+branches+call+choice+choice_nodes+conditional+else_arm+exact+first+front_list+last+leaving+list+lists+options+record+set+switch+test.Lts-choice as lts
-use Rattle.records.proofs.walker.+arms+assign+body+branch+branches+call+choice+choice_nodes+conditional+else_arm+exact+first+front_list+last+leaving+list+lists+options+record+set+switch+test.Proof.Base.{walk-choice-at, walk-choice-uses}
+use Rattle.records.proofs.walker.+arms+assign+body+branch+branches+call+choice+choice_nodes+conditional+else_arm+exact+first+front_list+last+last_leaves+list+lists+options+record+set+switch+test.Lts-choice as lts
+use Rattle.records.proofs.walker.+arms+assign+body+branch+branches+call+choice+choice_nodes+conditional+else_arm+exact+first+front_list+last+last_leaves+list+lists+options+record+set+switch+test.Proof.Base.{walk-choice-at, walk-choice-uses}
 
 module _ (t : ℕ) where
   fits : (c : lts.After-known-told2 (walk-choice-uses t) (walk-choice-at t) walk-choice.Post) → (1 ≤ c .before .reach2 .given .0 .0) × (c .before .reach2 .given .0 .0 ≤ length (c .before .before .before .before .before .before .args .s .now))

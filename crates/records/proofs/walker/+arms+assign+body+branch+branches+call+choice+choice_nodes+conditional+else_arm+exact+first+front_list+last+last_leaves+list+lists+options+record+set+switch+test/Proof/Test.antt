@@ -9,8 +9,8 @@ use Rattle.records.specs.Work.{st, keeping}
 use Rattle.records.proofs.PiecesRead.{first-fits, test-off-answers, test-on-answers, test-on-refused, test-flag-refused}
 use borrow.Author.Needs.{needs}
 use Rattle.records.proofs.walker.test.Reads as walk-test
-use Rattle.records.proofs.walker.+arms+assign+body+branch+branches+call+choice+choice_nodes+conditional+else_arm+exact+first+front_list+last+leaving+list+lists+options+record+set+switch+test.Lts-test as lts
-use Rattle.records.proofs.walker.+arms+assign+body+branch+branches+call+choice+choice_nodes+conditional+else_arm+exact+first+front_list+last+leaving+list+lists+options+record+set+switch+test.Proof.Base.{walk-test-at, walk-test-uses}
+use Rattle.records.proofs.walker.+arms+assign+body+branch+branches+call+choice+choice_nodes+conditional+else_arm+exact+first+front_list+last+last_leaves+list+lists+options+record+set+switch+test.Lts-test as lts
+use Rattle.records.proofs.walker.+arms+assign+body+branch+branches+call+choice+choice_nodes+conditional+else_arm+exact+first+front_list+last+last_leaves+list+lists+options+record+set+switch+test.Proof.Base.{walk-test-at, walk-test-uses}
 
 module _ (t : ℕ) where
   on : (c : lts.After-enum-told2 (walk-test-uses t) (walk-test-at t) walk-test.Post) → 1 ≤ length (c .before .before .before .before .before .args .s .now)

@@ -5,14 +5,14 @@ use lib.ListN.{length}
 use Rattle.fields.specs.declared.Role.the-variants.{Cond, Node}
 use Rattle.fields.proofs.Laws.{list-within}
 use Rattle.records.specs.Grammar.{recordOf, options, last, records}
-use Rattle.records.specs.Items.{endWithDivert}
-use Rattle.records.specs.Work.{st, run, keeping, secondList}
+use Rattle.records.specs.Items.{endWithDivert, secondList}
+use Rattle.records.specs.Work.{st, run, keeping}
 use Rattle.records.proofs.Walking.{sized-refused, sized-else, sized-on}
 use Rattle.records.proofs.Choices.{second-there, nodes-refused}
 use borrow.Author.Needs.{needs}
 use Rattle.records.proofs.walker.options.Reads as walk-options
-use Rattle.records.proofs.walker.+arms+assign+body+branch+branches+call+choice+choice_nodes+conditional+else_arm+exact+first+front_list+last+leaving+list+lists+options+record+set+switch+test.Lts-options as lts
-use Rattle.records.proofs.walker.+arms+assign+body+branch+branches+call+choice+choice_nodes+conditional+else_arm+exact+first+front_list+last+leaving+list+lists+options+record+set+switch+test.Proof.Base.{walk-options-at, walk-options-uses}
+use Rattle.records.proofs.walker.+arms+assign+body+branch+branches+call+choice+choice_nodes+conditional+else_arm+exact+first+front_list+last+last_leaves+list+lists+options+record+set+switch+test.Lts-options as lts
+use Rattle.records.proofs.walker.+arms+assign+body+branch+branches+call+choice+choice_nodes+conditional+else_arm+exact+first+front_list+last+last_leaves+list+lists+options+record+set+switch+test.Proof.Base.{walk-options-at, walk-options-uses}
 
 module _ (t : ℕ) where
   fits : (c : lts.After-known-told2 (walk-options-uses t) (walk-options-at t) walk-options.Post) → (4 ≤ c .before .reach2 .given .0 .0) × (c .before .reach2 .given .0 .0 ≤ length (c .before .before .before .before .before .before .args .s .now))

@@ -11,8 +11,8 @@ use Rattle.records.proofs.Bare.{bare-on}
 use Rattle.records.proofs.Walking.{front-refused, front-else, front-on, told-done}
 use borrow.Author.Needs.{needs}
 use Rattle.records.proofs.walker.list.Reads as walk-list
-use Rattle.records.proofs.walker.+arms+assign+body+branch+branches+call+choice+choice_nodes+conditional+else_arm+exact+first+front_list+last+leaving+list+lists+options+record+set+switch+test.Lts-list as lts
-use Rattle.records.proofs.walker.+arms+assign+body+branch+branches+call+choice+choice_nodes+conditional+else_arm+exact+first+front_list+last+leaving+list+lists+options+record+set+switch+test.Proof.Base.{walk-list-at, walk-list-uses}
+use Rattle.records.proofs.walker.+arms+assign+body+branch+branches+call+choice+choice_nodes+conditional+else_arm+exact+first+front_list+last+last_leaves+list+lists+options+record+set+switch+test.Lts-list as lts
+use Rattle.records.proofs.walker.+arms+assign+body+branch+branches+call+choice+choice_nodes+conditional+else_arm+exact+first+front_list+last+last_leaves+list+lists+options+record+set+switch+test.Proof.Base.{walk-list-at, walk-list-uses}
 
 -- what is left stands at `at`, and the run of the whole is the run of what is left
 abbrev Inv : lts.InvT-loop

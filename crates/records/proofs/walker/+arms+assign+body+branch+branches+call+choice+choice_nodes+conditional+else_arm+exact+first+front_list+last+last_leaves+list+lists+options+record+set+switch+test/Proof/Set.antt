@@ -9,8 +9,8 @@ use Rattle.records.specs.Work.{st, keeping}
 use Rattle.records.proofs.Walking.{named-refused, named-on}
 use borrow.Author.Needs.{needs}
 use Rattle.records.proofs.walker.set.Reads as walk-set
-use Rattle.records.proofs.walker.+arms+assign+body+branch+branches+call+choice+choice_nodes+conditional+else_arm+exact+first+front_list+last+leaving+list+lists+options+record+set+switch+test.Lts-set as lts
-use Rattle.records.proofs.walker.+arms+assign+body+branch+branches+call+choice+choice_nodes+conditional+else_arm+exact+first+front_list+last+leaving+list+lists+options+record+set+switch+test.Proof.Base.{walk-set-at, walk-set-uses}
+use Rattle.records.proofs.walker.+arms+assign+body+branch+branches+call+choice+choice_nodes+conditional+else_arm+exact+first+front_list+last+last_leaves+list+lists+options+record+set+switch+test.Lts-set as lts
+use Rattle.records.proofs.walker.+arms+assign+body+branch+branches+call+choice+choice_nodes+conditional+else_arm+exact+first+front_list+last+last_leaves+list+lists+options+record+set+switch+test.Proof.Base.{walk-set-at, walk-set-uses}
 
 module _ (t : ℕ) where
   fits : (c : lts.After-known-told2 (walk-set-uses t) (walk-set-at t) walk-set.Post) → (1 ≤ c .before .reach2 .given .0 .0) × (c .before .reach2 .given .0 .0 ≤ length (c .before .before .before .before .before .before .args .s .now))

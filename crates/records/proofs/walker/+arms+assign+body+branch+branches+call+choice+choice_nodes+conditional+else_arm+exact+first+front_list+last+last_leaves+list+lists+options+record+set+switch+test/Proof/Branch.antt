@@ -8,8 +8,8 @@ use Rattle.records.specs.Work.{st, keeping}
 use Rattle.records.proofs.PiecesRead.{listed-fits, test-fits, branch-test-refused, branch-list-refused, branch-answers}
 use borrow.Author.Needs.{needs}
 use Rattle.records.proofs.walker.branch.Reads as walk-branch
-use Rattle.records.proofs.walker.+arms+assign+body+branch+branches+call+choice+choice_nodes+conditional+else_arm+exact+first+front_list+last+leaving+list+lists+options+record+set+switch+test.Lts-branch as lts
-use Rattle.records.proofs.walker.+arms+assign+body+branch+branches+call+choice+choice_nodes+conditional+else_arm+exact+first+front_list+last+leaving+list+lists+options+record+set+switch+test.Proof.Base.{walk-branch-at, walk-branch-uses}
+use Rattle.records.proofs.walker.+arms+assign+body+branch+branches+call+choice+choice_nodes+conditional+else_arm+exact+first+front_list+last+last_leaves+list+lists+options+record+set+switch+test.Lts-branch as lts
+use Rattle.records.proofs.walker.+arms+assign+body+branch+branches+call+choice+choice_nodes+conditional+else_arm+exact+first+front_list+last+last_leaves+list+lists+options+record+set+switch+test.Proof.Base.{walk-branch-at, walk-branch-uses}
 
 module _ (t : ℕ) where
   test-requires : lts.Need-test-requires (walk-branch-uses t) (walk-branch-at t) walk-branch.Post

@@ -12,27 +12,27 @@ use Rattle.records.proofs.Walking.{sized-refused}
 use Rattle.records.proofs.Choices.{nodes-refused, nodes-ended}
 use borrow.Author.Needs.{needs}
 use Rattle.records.proofs.walker.choice_nodes.Reads as walk-choice-nodes
-use Rattle.records.proofs.walker.+arms+assign+body+branch+branches+call+choice+choice_nodes+conditional+else_arm+exact+first+front_list+last+leaving+list+lists+options+record+set+switch+test.Lts-choice_nodes as lts
-use Rattle.records.proofs.walker.+arms+assign+body+branch+branches+call+choice+choice_nodes+conditional+else_arm+exact+first+front_list+last+leaving+list+lists+options+record+set+switch+test.Proof.Base.{walk-choice-nodes-at, walk-choice-nodes-uses}
+use Rattle.records.proofs.walker.+arms+assign+body+branch+branches+call+choice+choice_nodes+conditional+else_arm+exact+first+front_list+last+last_leaves+list+lists+options+record+set+switch+test.Lts-choice_nodes as lts
+use Rattle.records.proofs.walker.+arms+assign+body+branch+branches+call+choice+choice_nodes+conditional+else_arm+exact+first+front_list+last+last_leaves+list+lists+options+record+set+switch+test.Proof.Base.{walk-choice-nodes-at, walk-choice-nodes-uses}
 
 module _ (t : ℕ) where
   fits : (c : lts.After-known-told2 (walk-choice-nodes-uses t) (walk-choice-nodes-at t) walk-choice-nodes.Post) → (4 ≤ c .before .reach2 .given .0 .0) × (c .before .reach2 .given .0 .0 ≤ length (c .before .before .before .before .before .before .args .s .now))
   fits c = list-within (c .before .before .before .before .before .before .args .s .now) (c .before .reach2 .given .0 .0) (c .before .before .before .read-list .ensures) (c .before .reach2 .given .1)
 
-  sub-piece : lts.Need-sub-leaving (walk-choice-nodes-uses t) (walk-choice-nodes-at t) walk-choice-nodes.Post
+  sub-piece : lts.Need-sub-last-leaves (walk-choice-nodes-uses t) (walk-choice-nodes-at t) walk-choice-nodes.Post
   sub-piece c = fits c .0
 
-  part-start : lts.Need-part-leaving-start (walk-choice-nodes-uses t) (walk-choice-nodes-at t) walk-choice-nodes.Post
+  part-start : lts.Need-part-last-leaves-start (walk-choice-nodes-uses t) (walk-choice-nodes-at t) walk-choice-nodes.Post
   part-start c = omega (arith, fits c)
 
-  part-end : lts.Need-part-leaving-end (walk-choice-nodes-uses t) (walk-choice-nodes-at t) walk-choice-nodes.Post
+  part-end : lts.Need-part-last-leaves-end (walk-choice-nodes-uses t) (walk-choice-nodes-at t) walk-choice-nodes.Post
   part-end c = omega (arith, fits c)
 
-  add-4 : lts.Need-add-leaving (walk-choice-nodes-uses t) (walk-choice-nodes-at t) walk-choice-nodes.Post
+  add-4 : lts.Need-add-last-leaves (walk-choice-nodes-uses t) (walk-choice-nodes-at t) walk-choice-nodes.Post
   add-4 c = omega (arith, fits (c .before), c .before .before .before .before .before .before .before .pre .1)
 
-  piece-requires : lts.Need-leaving-requires (walk-choice-nodes-uses t) (walk-choice-nodes-at t) walk-choice-nodes.Post
-  piece-requires c κs = omega (arith, fits (c .before .before), c .before .leaving-arg .given .2, c .before .before .before .before .before .before .before .before .pre .0, c .before .before .before .before .before .before .before .before .pre .1)
+  piece-requires : lts.Need-last-leaves-requires (walk-choice-nodes-uses t) (walk-choice-nodes-at t) walk-choice-nodes.Post
+  piece-requires c κs = omega (arith, fits (c .before .before), c .before .last-leaves-arg .given .2, c .before .before .before .before .before .before .before .before .pre .0, c .before .before .before .before .before .before .before .before .pre .1)
 
   sub-rest : lts.Need-sub-nodes-end (walk-choice-nodes-uses t) (walk-choice-nodes-at t) walk-choice-nodes.Post
   sub-rest c = omega (arith, fits (c .before .before .before .before .before))
@@ -52,7 +52,7 @@ module _ (t : ℕ) where
   rest c =
       let a = c .before .before .before .before .before .before .before .before .before .before .before .before .before .args in
       let k = c .before .before .before .before .before .before .before .before .reach2 .given in
-      nodes-ended keeping (a .base) (st (a .out .now) (a .n)) (recordOf (a .left)) (a .s .now) (k .0 .0) (c .before .before .before .before .before .before .before .before .before .before .read-list .ensures) (k .1) (c .before .before .before .before .leaving .ensures) (c .nodes-end .ensures)
+      nodes-ended keeping (a .base) (st (a .out .now) (a .n)) (recordOf (a .left)) (a .s .now) (k .0 .0) (c .before .before .before .before .before .before .before .before .before .before .read-list .ensures) (k .1) (c .before .before .before .before .last-leaves .ensures) (c .nodes-end .ensures)
 
   pub ok : {M : Type 1} → lts.Closed (walk-choice-nodes-uses t) (walk-choice-nodes-at t) walk-choice-nodes.Post M
   ok = lts.spec (walk-choice-nodes-uses t) (walk-choice-nodes-at t) walk-choice-nodes.Post (λ c κs. search needs) (λ c. search needs) (λ c. search needs) sub-piece part-start part-end add-4 piece-requires sub-rest part-rest (λ c. search needs) (λ c κs. search needs) refused (λ c. search needs) rest

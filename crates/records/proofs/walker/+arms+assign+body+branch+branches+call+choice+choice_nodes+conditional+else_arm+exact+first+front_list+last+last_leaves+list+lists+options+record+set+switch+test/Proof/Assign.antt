@@ -7,8 +7,8 @@ use Rattle.records.specs.Work.{st, keeping}
 use Rattle.records.proofs.Walking.{moded-short, moded-on, moded-no}
 use borrow.Author.Needs.{needs}
 use Rattle.records.proofs.walker.assign.Reads as walk-assign
-use Rattle.records.proofs.walker.+arms+assign+body+branch+branches+call+choice+choice_nodes+conditional+else_arm+exact+first+front_list+last+leaving+list+lists+options+record+set+switch+test.Lts-assign as lts
-use Rattle.records.proofs.walker.+arms+assign+body+branch+branches+call+choice+choice_nodes+conditional+else_arm+exact+first+front_list+last+leaving+list+lists+options+record+set+switch+test.Proof.Base.{walk-assign-at, walk-assign-uses}
+use Rattle.records.proofs.walker.+arms+assign+body+branch+branches+call+choice+choice_nodes+conditional+else_arm+exact+first+front_list+last+last_leaves+list+lists+options+record+set+switch+test.Lts-assign as lts
+use Rattle.records.proofs.walker.+arms+assign+body+branch+branches+call+choice+choice_nodes+conditional+else_arm+exact+first+front_list+last+last_leaves+list+lists+options+record+set+switch+test.Proof.Base.{walk-assign-at, walk-assign-uses}
 
 module _ (t : ℕ) where
   cut : lts.Need-returns (walk-assign-uses t) (walk-assign-at t) walk-assign.Post
