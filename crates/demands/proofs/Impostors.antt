@@ -1,5 +1,5 @@
 -- The demands themselves rule out 01's impostors, whatever the way of checking: demand 3 one that accepts a story in breach, in its root or in a
--- knot, demand 1 one that answers refusal 4 for all. Assumes nothing.
+-- knot, demand 1 one that answers refusal 4 for all, of checking and of reading. Assumes nothing.
 use mathlib.Core.Path.{_≡_, refl, sym, _∙_, ap}
 use mathlib.Core.List.{List}
 use mathlib.Core.Option.{none}
@@ -8,6 +8,8 @@ use native.Mathlib.Omega.{arith}
 use lib.ListN.{length}
 use Rattle.fields.specs.declared.Refusal.the-variants.{Short}
 use Rattle.fields.specs.Refusals.{refusalNumber}
+use Rattle.story.specs.declared.StoryRead.the-variants.{Refused}
+use Rattle.story.specs.Results.{readResultOf}
 use Rattle.rules.specs.Steps.{verdict}
 use Rattle.rules.specs.Reader.{storyOf}
 use Rattle.rules.proofs.FileDemand.{file-demand3}
@@ -15,8 +17,8 @@ use Rattle.validator.specs.declared.Answer.the-variants.{Accepted, Unreadable}
 use Rattle.validator.specs.Results.{accepted, breach, checked, resultOf}
 use Rattle.validator.specs.Check.{judgedOf, Report, storyReport, reportOf}
 use Rattle.validator.specs.Demand.{Checks, Demand3}
-use Rattle.validator.proofs.Impostors.{Room, emptyStory, lostDivert, brokenKnot, empty-reported, lost-reported, knot-reported}
-use Rattle.demands.specs.Demand1.{CheckClaim}
+use Rattle.validator.proofs.Impostors.{Room, emptyStory, lostDivert, brokenKnot, empty-report, empty-reported, lost-reported, knot-reported}
+use Rattle.demands.specs.Demand1.{Reads, ReadClaim, CheckClaim}
 use Rattle.demands.proofs.Refusals.{readable-exactly}
 use Rattle.demands.proofs.Demand1.{refused-so, judged-so}
 
@@ -55,9 +57,11 @@ pub record Impostors : Type 1 where
   -- one answering refusal 4 for all (demand 1's exact cases)
   pub refusing-all : (Check : Checks) → CheckClaim Check → (index message index′ message′ : List ℕ) → Room emptyStory index message
       → Check emptyStory index message (Unreadable Short) index′ message′ → ⊥
+  -- the same of reading
+  pub reading-none : (Read : Reads) → ReadClaim Read → (items items′ : List ℕ) → Read emptyStory items (Refused Short) items′ → ⊥
 
 pub impostors : Impostors
-unfolding resultOf refusalNumber
+unfolding resultOf readResultOf refusalNumber
 impostors = record {
   accepting-all = λ Check d index message n index′ message′ p. not-accepted Check d lostDivert 21 640 lost-reported index message n index′ message′ p;
   flows-taken-as-read = λ Check d index message n index′ message′ p. not-accepted Check d brokenKnot 126 640 knot-reported index message n index′ message′ p;
@@ -66,4 +70,7 @@ impostors = record {
       let e = sym (ap (λ (x : Report). x .result) (refused-so emptyStory (length index) (length message) u)) ∙ empty-reported room in
       let z : _≡_ {A = ℕ} 0 1 = cc in
       omega arith;
+  reading-none = λ Read d items items′ p.
+      let readable = judged-so emptyStory 0 640 (ap (λ (x : Report). x .result) empty-report) .0 in
+      readable 4 (d .refuses emptyStory items (Refused Short) items′ p 4 .0 refl);
 }

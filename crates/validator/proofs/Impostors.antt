@@ -90,7 +90,7 @@ pub record Impostors : Type 0 where
       → Checked emptyStory index message (Accepted n) index′ message′ → ⊥
 
 -- the reports of the four files, with buffers of exactly the room
-empty-report : reportOf emptyStory 0 640 ≡ record { result = checked accepted 0 0; numbers = []; text = ascii "" }
+pub empty-report : reportOf emptyStory 0 640 ≡ record { result = checked accepted 0 0; numbers = []; text = ascii "" }
 unfolding emptyStory table row reported
 empty-report = as-expected 0
 
