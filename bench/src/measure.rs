@@ -19,12 +19,15 @@ const BUDGET: Duration = Duration::from_secs(2);
 const MOST_ROUNDS: u32 = 101;
 const FEWEST_ROUNDS: u32 = 5;
 
+/// After this time no other round is begun, however few there were.
+pub const ENOUGH: Duration = BUDGET.saturating_mul(FEWEST_ROUNDS);
+
 /// The median of some rounds, and half the distance of the quartiles as a share of it.
 #[derive(Debug, Clone, Copy, PartialEq)]
 pub struct Timed {
     pub median: Duration,
     pub spread: f64,
-    /// How many rounds there were; 1 where the first run is all there is.
+    /// How many rounds there were; 1 also where the first run is all there is.
     pub rounds: u32,
 }
 
@@ -133,7 +136,7 @@ fn run_rounds(timings: &mut [Timing]) {
             let number = (turn + done as usize) % repeated.len();
             spent += repeated[number].measure();
         }
-        let enough = done >= FEWEST_ROUNDS || spent >= BUDGET * FEWEST_ROUNDS;
+        let enough = done >= FEWEST_ROUNDS || spent >= ENOUGH;
         if spent >= BUDGET && enough {
             break;
         }

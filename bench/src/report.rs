@@ -161,6 +161,7 @@ How many times longer it takes from one size to the next, and the power of the l
 /// How it was measured.
 fn method() -> String {
     let once = crate::measure::ONCE.as_secs();
+    let enough = crate::measure::ENOUGH.as_secs();
     let again = crate::measure::AGAIN.as_millis();
     let limit = LIMIT.as_secs();
     format!(
@@ -174,7 +175,7 @@ fn method() -> String {
 - The buffers of this check are lent again and again and not cleared between calls; the index has 4 × (L-20) numbers, L the length of the row's longest file. Building stories, encoding and reading files are not timed.
 - Every cell has a process of its own. In first runs all must give the same verdict and text, or the same refusal, on every file.
 - Then they are timed in turn in each round, each round starting with another one; work under 1 ms is repeated until it lasts that long. What took at most {again} ms in its first run is run once more before each of its measurements, untimed, so that at every size the caches are as its own last run leaves them, and not as the other's does. Times are processor time of the measuring thread, so that other processes on the machine do not count, and medians of the rounds; ± is half the distance of the quartiles, in hundredths of the median, the larger of the two compared.
-- What takes over {once} s in its first run is not run again: it has 1 round. A cell that takes over {limit} s in all is stopped, and what was known by then is reported; a ratio called over something is then that of the time waited by the clock. Larger sizes of that story are not tried.
+- What takes over {once} s in its first run is not run again: it has 1 round. No other round is begun once all have taken {enough} s. A cell that takes over {limit} s in all is stopped, and what was known by then is reported; a ratio called over something is then that of the time waited by the clock. Larger sizes of that story are not tried.
 "
     )
 }

@@ -3,7 +3,7 @@
 use super::shown::{factor, size_shown};
 use super::{Growth, growths, ratio};
 use crate::cell::{Cell, LIMIT};
-use crate::measure::ONCE;
+use crate::measure::{ENOUGH, ONCE};
 use crate::tasks::Subject;
 
 /// By how much a power must be larger to be named.
@@ -72,15 +72,17 @@ fn faster_growth(cells: &[Cell]) -> String {
     }
 }
 
-/// Says which subjects of a cell were run once.
+/// Says which subjects of a cell have one measurement.
 fn measured_once(cell: &Cell) -> Option<String> {
     let once = cell.times.iter().filter(|(_, timed)| timed.rounds == 1);
     let once: Vec<&str> = once.map(|(subject, _)| title(*subject)).collect();
-    let seconds = ONCE.as_secs();
+    let seconds = [ONCE, ENOUGH].map(|limit| limit.as_secs());
     (!once.is_empty() && cell.times.contains_key(&Subject::Check)).then(|| {
         format!(
-            "{}: run once, since a run takes over {seconds} s or the cell was stopped: {}.",
+            "{}: measured once, since a run takes over {} s, a round of all over {} s, or the cell was stopped: {}.",
             place(cell),
+            seconds[0],
+            seconds[1],
             once.join(", ")
         )
     })
@@ -155,7 +157,7 @@ mod tests {
     #[test]
     fn cells_that_were_run_once_or_stopped_are_named() {
         let once = notes(&[cell(1, 2, Some(2)), cell(2, 4, Some(30))]);
-        let line = "- novel, 2 KB: run once, since a run takes over 20 s or the cell was stopped: this check.\n";
+        let line = "- novel, 2 KB: measured once, since a run takes over 20 s, a round of all over 10 s, or the cell was stopped: this check.\n";
         assert!(once.contains(line), "{once}");
         let stopped = notes(&[cell(1, 2, Some(2)), cell(2, 4, None)]);
         let line = "- novel, 2 KB: stopped after 120 s, so that there is no time for: this check; no larger size was tried.\n";
