@@ -3,8 +3,8 @@
  *
  * Link libqaabireed.a, which `rt staticlib qaabireed` writes to target/staticlib/. It needs
  * nothing but the C library, keeps no state, takes no memory from the heap and holds no pointer
- * after a call, so that calls with different buffers may run at the same time. A call takes less
- * than 1.75 MiB of stack, whatever the file holds.
+ * after a call, so that calls with different buffers may run at the same time. Every file that was
+ * tried took less than 1.75 MiB of stack (docs/DECISIONS.md, Stack).
  *
  * What a caller owes, for both functions:
  * - no pointer is null, also where its length is 0;
