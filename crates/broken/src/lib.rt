@@ -1,4 +1,5 @@
 // The fifteen rules at one thing that a step visits: a record, a parameter, a stitch's name or a flow's first byte.
+#![tactic(auto)]
 pub mod diverts;
 pub mod known;
 pub mod structure;
@@ -26,7 +27,7 @@ use structure::{
 use variables::is_variable_forbidden;
 
 // The whole story: its sections, the names that are not in the set of names, and whether some target is not in the set of targets.
-#[derive(Drop)]
+#[derive(Clone, Copy)]
 pub struct StoryView {
     pub sections: Sections,
     pub names: Names,
@@ -36,7 +37,7 @@ pub struct StoryView {
 // Where a step runs. Of the root, the flow or the stitch at hand: the place of the flow's name, its parameters and divert parameters, and the
 // run of its kept items; of its knot: the parameters, the run of its own list and of its stitches after it, and whether it has stitches.
 // The root is its own knot, without name and parameters.
-#[derive(Drop)]
+#[derive(Clone, Copy)]
 pub struct Scope {
     pub flow: usize,
     pub params: usize,
@@ -51,7 +52,7 @@ pub struct Scope {
 }
 
 // The numbers of the items from which on the names are in no set: the knot's labels and temps, the body's temps and its gathers so far.
-#[derive(Drop)]
+#[derive(Clone, Copy)]
 pub struct Rests {
     pub labels: usize,
     pub temps: usize,
@@ -60,7 +61,7 @@ pub struct Rests {
 }
 
 // What a step visits: its sort, the place of its name, whether it stands in a branch, and whether it is a choice that leaves.
-#[derive(Drop)]
+#[derive(Clone, Copy)]
 pub struct Thing {
     pub sort: u8,
     pub name: usize,
@@ -69,7 +70,7 @@ pub struct Thing {
 }
 
 // A thing that a step visits, with all that a rule may ask: how many items of the body stand before it.
-#[derive(Drop)]
+#[derive(Clone, Copy)]
 pub struct At {
     pub story: StoryView,
     pub scope: Scope,

@@ -1,4 +1,5 @@
 // The tests of the rules at one record or one name of a story.
+#![tactic(auto)]
 pub mod diverts;
 pub mod known;
 pub mod labels;
@@ -8,7 +9,7 @@ pub mod structure;
 use rules::Rule;
 
 // A rule that is broken, or none.
-#[derive(Drop)]
+#[derive(Clone, Copy)]
 pub enum Judged {
     Fine,
     Broken(Rule),
@@ -17,7 +18,7 @@ pub enum Judged {
 // Where a step runs, by places in the file. Of the flow or the stitch at hand: whether it is a stitch, the flow's name, its own
 // parameters, divert parameters and body. Of its knot: the parameters, the body, which ends where the stitches begin, and their end.
 // The root is its own knot, without name, parameters and stitches.
-#[derive(Drop)]
+#[derive(Clone, Copy)]
 pub struct ScopeView {
     pub inner: bool,
     pub flow: usize,
@@ -32,7 +33,7 @@ pub struct ScopeView {
 }
 
 // An item of a body: its number in the body, and the number kept of it.
-#[derive(Drop)]
+#[derive(Clone, Copy)]
 pub struct Slot {
     pub number: usize,
     pub item: u32,

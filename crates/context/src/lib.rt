@@ -1,4 +1,5 @@
 // The twenty steps over a story whose index is written: the first breach, or none.
+#![tactic(auto)]
 pub mod breaches;
 pub mod context;
 pub mod passes;
@@ -8,7 +9,7 @@ pub mod structure;
 use rules::Rule;
 
 // A breach: its rule, its place, and the places of the names for its text.
-#[derive(Drop)]
+#[derive(Clone, Copy)]
 pub struct BreachAt {
     pub rule: Rule,
     pub place: usize,
@@ -17,14 +18,14 @@ pub struct BreachAt {
 }
 
 // The first breach, or none.
-#[derive(Drop)]
+#[derive(Clone, Copy)]
 pub enum Found {
     Clear,
     Breach(BreachAt),
 }
 
 // What a step looks for along a body.
-#[derive(Drop)]
+#[derive(Clone, Copy)]
 pub enum Pass {
     Temps,
     Targets,

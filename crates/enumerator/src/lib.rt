@@ -1,10 +1,11 @@
 // The index of a story: its entries, written as three numbers each, and found by a target.
+#![tactic(auto)]
 pub mod answers;
 pub mod entries;
 pub mod visits;
 
 // What was seen of the entries visited: how many they are, whether a target of theirs was not put into the set, whether one of them answers the target.
-#[derive(Drop)]
+#[derive(Clone, Copy)]
 pub struct Seen {
     pub count: usize,
     pub left: bool,
@@ -12,7 +13,7 @@ pub struct Seen {
 }
 
 // How a target fits a spelling: it is the spelling, or the spelling ends in "." and the target.
-#[derive(Drop)]
+#[derive(Clone, Copy)]
 pub enum Fit {
     Exact,
     Ending,
@@ -20,7 +21,7 @@ pub enum Fit {
 }
 
 // The number of an entry, or none.
-#[derive(Drop)]
+#[derive(Clone, Copy)]
 pub enum Found {
     At(usize),
     Nowhere,

@@ -1,11 +1,12 @@
 // The fields of a story file: numbers, names, the heads of lists and records, and the kinds.
+#![tactic(auto)]
 ghost use Rattle.std.specs.Prelude.{◌≡◌};
 ghost use Rattle.fields.specs.Bytes.{le32, head_of, read_of_head, list_of, name_of, span_reach, flag_of};
 ghost use Rattle.fields.specs.Kinds.{expr_kind, cond_kind, node_kind, kind_of};
 ghost use Rattle.fields.specs.Refusals.{refusal_number};
 
 // Why a file cannot be read: refusals 1 to 6.
-#[derive(Drop)]
+#[derive(Clone, Copy)]
 pub enum Refusal {
     Length,
     Mark,
@@ -16,21 +17,21 @@ pub enum Refusal {
 }
 
 // The place after a name, a list or several names; or the refusal.
-#[derive(Drop)]
+#[derive(Clone, Copy)]
 pub enum Reach {
     To(usize),
     Refused(Refusal),
 }
 
 // A record's kind and the place after the record, or the refusal. Its payload stands from 5 to that place.
-#[derive(Drop)]
+#[derive(Clone, Copy)]
 pub enum HeadRead {
     To(u8, usize),
     Refused(Refusal),
 }
 
 // The flag at the front of some bytes: 0 is off, 1 is on; or the refusal.
-#[derive(Drop)]
+#[derive(Clone, Copy)]
 pub enum FlagRead {
     Off,
     On,
@@ -38,7 +39,7 @@ pub enum FlagRead {
 }
 
 // Where a record stands, as far as a rule asks.
-#[derive(Drop)]
+#[derive(Clone, Copy)]
 pub enum Role {
     // a node in the root, a flow's or a stitch's list, a choice's body or a branch of a sequence
     Node,
@@ -54,7 +55,7 @@ pub enum Role {
 }
 
 // How a payload is read: so many expressions; a name; a name and expressions; the kinds 8, 9, 10, 13 and 14.
-#[derive(Drop)]
+#[derive(Clone, Copy)]
 pub enum Body {
     Exprs(u8, Role),
     Single,
@@ -67,7 +68,7 @@ pub enum Body {
 }
 
 // How the payload of a kind is read, or that there is no such kind.
-#[derive(Drop)]
+#[derive(Clone, Copy)]
 pub enum Kinded {
     Known(Body),
     None,

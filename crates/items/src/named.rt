@@ -10,7 +10,7 @@ use names::same_name;
 use records::sorts::{GATHER, TEMP};
 
 // What is sought: a label, a temp, or the label of a gather.
-#[derive(Drop)]
+#[derive(Clone, Copy)]
 pub enum Sought {
     Label,
     Temp,

@@ -1,4 +1,5 @@
 // The line that a program prints for a story file, written into a buffer that the caller lends.
+#![tactic(auto)]
 ghost use Rattle.std.specs.Prelude.{◌≡◌, ◌+◌, ◌≤◌, length, [], ◌∷◌};
 ghost use Rattle.messages.specs.Messages.{Wrote};
 ghost use Rattle.validator.specs.Results.{result_of};
@@ -11,7 +12,7 @@ use rules::rule_number;
 use validator::{Answer, check};
 
 // The answer of a check, and the length of its line.
-#[derive(Drop)]
+#[derive(Clone, Copy)]
 pub struct CheckedLine {
     pub answer: Answer,
     pub length: usize,

@@ -5,7 +5,7 @@ use crate::shown::{BLANK, show_lent};
 use names::same_name;
 
 // What a block tells: how many numbers of the index are lent, and the lengths of the file and of the target.
-#[derive(Drop)]
+#[derive(Clone, Copy)]
 struct Block {
     lent: usize,
     file: usize,

@@ -1,4 +1,5 @@
 // A target looked up in a story file, without regard to where a divert stands.
+#![tactic(auto)]
 ghost use Rattle.std.specs.Prelude.{◌≡◌, ◌∷◌, ◌≤◌, ◌*◌, length};
 ghost use Rattle.names.specs.Words.{same, ends};
 ghost use Rattle.story.specs.File.{story_in, InOrder};
@@ -16,7 +17,7 @@ use symbols::entries::write_index;
 use symbols::targets::{find_ending, find_exact};
 
 // What a target is: an entry is named by its number in the index, from 0.
-#[derive(Drop)]
+#[derive(Clone, Copy)]
 pub enum Target {
     Pass,
     Function,
@@ -27,14 +28,14 @@ pub enum Target {
 }
 
 // What the target is, and how many entries the index has.
-#[derive(Drop)]
+#[derive(Clone, Copy)]
 pub struct Answered {
     pub target: Target,
     pub entries: usize,
 }
 
 // What a lookup returns: the reader's refusal, refusal 7, or what it answers.
-#[derive(Drop)]
+#[derive(Clone, Copy)]
 pub enum LookupAnswer {
     Refused(Refusal),
     ShortIndex,

@@ -65,28 +65,28 @@ module _ (v : Visitor St) (b : ℕ) (s₀ : St) where
   unfolding front_at
   front-refused f k s x e q = told-refused (front f k s) x (rw (head-refused (head_of s) e x q))
 
-  front_at : (f : Reader) (k : Reading) (s : List ℕ) (kind to : ℕ) {r : HeadRead} → r ≡ read_of_head (head_of s) → r ≡ head_read.To kind to
+  front-at : (f : Reader) (k : Reading) (s : List ℕ) (kind to : ℕ) {r : HeadRead} → r ≡ read_of_head (head_of s) → r ≡ head_read.To kind to
       → front f k s ≡ and_then (f kind (take (to - 5) (drop 5 s))) (shift to (k (drop to s)))
   unfolding front_at
-  front_at f k s kind to e q = let h = head-to (head_of s) e kind to q in rw (h.0, h.1)
+  front-at f k s kind to e q = let h = head-to (head_of s) e kind to q in rw (h.0, h.1)
 
   pub front-on : (f : Reader) (k : Reading) (s : List ℕ) (kind to m : ℕ) {r : HeadRead} {w : Walk} {o : List ℕ} → r ≡ read_of_head (head_of s) → r ≡ head_read.To kind to
       → Told (run v b s₀ (f kind (take (to - 5) (drop 5 s)))) w o → w ≡ walk.Done m
       → run v b s₀ (front f k s) ≡ run v (b + to) (st o m) (k (take (length s - to) (drop to s)))
   front-on f k s kind to m e q g z =
-      rw (to_end to s, front_at f k s kind to e q) (then-on (f kind (take (to - 5) (drop 5 s))) (k (drop to s)) to m g z)
+      rw (to_end to s, front-at f k s kind to e q) (then-on (f kind (take (to - 5) (drop 5 s))) (k (drop to s)) to m g z)
 
   -- a refusal inside it is the whole's
   pub front-else : (f : Reader) (k : Reading) (s : List ℕ) (kind to : ℕ) {r : HeadRead} {w : Walk} {o : List ℕ} → r ≡ read_of_head (head_of s) → r ≡ head_read.To kind to
       → Told (run v b s₀ (f kind (take (to - 5) (drop 5 s)))) w o → {x : Refusal} → w ≡ walk.Refused x
       → Told (run v b s₀ (front f k s)) w o
   front-else f k s kind to e q g z =
-      rw (front_at f k s kind to e q) (then-else (f kind (take (to - 5) (drop 5 s))) (shift to (k (drop to s))) g z)
+      rw (front-at f k s kind to e q) (then-else (f kind (take (to - 5) (drop 5 s))) (shift to (k (drop to s))) g z)
 
   -- the record alone
   pub front-alone : (f : Reader) (s : List ℕ) (kind to : ℕ) {r : HeadRead} {w : Walk} {o : List ℕ} → r ≡ read_of_head (head_of s) → r ≡ head_read.To kind to
       → Told (run v b s₀ (f kind (take (to - 5) (drop 5 s)))) w o → Told (run v b s₀ (front f nothing s)) w o
-  front-alone f s kind to e q g = rw (front_at f nothing s kind to e q, shift-done to, then-done (f kind (take (to - 5) (drop 5 s)))) g
+  front-alone f s kind to e q g = rw (front-at f nothing s kind to e q, shift-done to, then-done (f kind (take (to - 5) (drop 5 s)))) g
 
   -- a piece behind its length, read by g
   pub sized-refused : (g k : Reading) (s : List ℕ) (x : Refusal) {r : Reach} → r ≡ span_reach 4 (list_of s) → r ≡ reach.Refused x

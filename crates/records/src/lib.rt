@@ -1,4 +1,5 @@
 // The records of a list at every depth: how many they are, and a number for each that is not plain to the rules.
+#![tactic(auto)]
 ghost use Rattle.std.specs.Prelude.{◌+◌, ◌^◌, ◌<◌, length};
 ghost use Rattle.records.specs.Grammar.{nodes};
 ghost use Rattle.records.specs.Work.{run, st, keeping, Told};
@@ -16,21 +17,21 @@ pub const MET: usize = 4294967296;
 pub const LEAVES: u32 = 67108864;
 
 // How a walk ends: read through, with the counts of records kept and met as one number; or refused.
-#[derive(Drop)]
+#[derive(Clone, Copy)]
 pub enum Walk {
     Done(usize),
     Refused(Refusal),
 }
 
 // The place after a piece that was read, and the counts with its records; or the refusal.
-#[derive(Drop)]
+#[derive(Clone, Copy)]
 pub enum PieceRead {
     To(usize, usize),
     Refused(Refusal),
 }
 
 // The counts after the nodes of a choice that were read, and whether they leave: the last that is no Newline is a divert or a return; or the refusal.
-#[derive(Drop)]
+#[derive(Clone, Copy)]
 pub enum NodesRead {
     Done(usize, bool),
     Refused(Refusal),

@@ -133,7 +133,7 @@ fn put_leaves(nodes: NodesRead, out: &mut [u32], n: usize) -> Walk
 }
 
 // A record of a role, by its kind.
-#[cycle(arms_assign_body_branch_branches_call_choice_choice_nodes_conditional_else_arm_exact_first_front_list_last_last_leaves_list_lists_options_record_set_switch_test)]
+#[cycle(walk)]
 fn record(
     s: &[u8],
     role: Role,
@@ -157,7 +157,7 @@ fn record(
 }
 
 // A payload.
-#[cycle(arms_assign_body_branch_branches_call_choice_choice_nodes_conditional_else_arm_exact_first_front_list_last_last_leaves_list_lists_options_record_set_switch_test)]
+#[cycle(walk)]
 fn body(s: &[u8], body: Body, base: usize, left: usize, out: &mut [u32], n: usize) -> Walk
     requires { base + length s.now < 2 ^ 20 }
     ensures { Told (run keeping base (st (put_leaves (payload_leaves body s.now) n out.old) n) (body_of body (record_of left) s.now)) result out.new }
@@ -175,7 +175,7 @@ fn body(s: &[u8], body: Body, base: usize, left: usize, out: &mut [u32], n: usiz
 }
 
 // So many expressions of a role, and nothing more.
-#[cycle(arms_assign_body_branch_branches_call_choice_choice_nodes_conditional_else_arm_exact_first_front_list_last_last_leaves_list_lists_options_record_set_switch_test)]
+#[cycle(walk)]
 fn exact(
     s: &[u8],
     many: u8,
@@ -210,7 +210,7 @@ fn exact(
 }
 
 // Records of a role to the end.
-#[cycle(arms_assign_body_branch_branches_call_choice_choice_nodes_conditional_else_arm_exact_first_front_list_last_last_leaves_list_lists_options_record_set_switch_test)]
+#[cycle(walk)]
 pub fn list(s: &[u8], role: Role, base: usize, left: usize, out: &mut [u32], n: usize) -> Walk
     requires { base + length s.now < 2 ^ 20 }
     ensures { Told (run keeping base (st out.old n) (records (record_of left role) s.now)) result out.new }
@@ -245,7 +245,7 @@ pub fn list(s: &[u8], role: Role, base: usize, left: usize, out: &mut [u32], n: 
 }
 
 // A name, and expressions of a role to the end.
-#[cycle(arms_assign_body_branch_branches_call_choice_choice_nodes_conditional_else_arm_exact_first_front_list_last_last_leaves_list_lists_options_record_set_switch_test)]
+#[cycle(walk)]
 fn call(s: &[u8], role: Role, base: usize, left: usize, out: &mut [u32], n: usize) -> Walk
     requires { base + length s.now < 2 ^ 20 }
     ensures { Told (run keeping base (st out.old n) (named (records (record_of left role)) s.now)) result out.new }
@@ -263,7 +263,7 @@ fn call(s: &[u8], role: Role, base: usize, left: usize, out: &mut [u32], n: usiz
 }
 
 // A condition, a list of nodes, and perhaps another.
-#[cycle(arms_assign_body_branch_branches_call_choice_choice_nodes_conditional_else_arm_exact_first_front_list_last_last_leaves_list_lists_options_record_set_switch_test)]
+#[cycle(walk)]
 fn conditional(s: &[u8], base: usize, left: usize, out: &mut [u32], n: usize) -> Walk
     requires { base + length s.now < 2 ^ 20 }
     ensures { Told (run keeping base (st out.old n) (front (record_of left Role.Cond) (arms (record_of left)) s.now)) result out.new }
@@ -276,7 +276,7 @@ fn conditional(s: &[u8], base: usize, left: usize, out: &mut [u32], n: usize) ->
 }
 
 // A list of nodes, and perhaps another.
-#[cycle(arms_assign_body_branch_branches_call_choice_choice_nodes_conditional_else_arm_exact_first_front_list_last_last_leaves_list_lists_options_record_set_switch_test)]
+#[cycle(walk)]
 fn arms(s: &[u8], base: usize, left: usize, out: &mut [u32], n: usize) -> Walk
     requires { base + length s.now < 2 ^ 20 }
     ensures { Told (run keeping base (st out.old n) (arms (record_of left) s.now)) result out.new }
@@ -295,7 +295,7 @@ fn arms(s: &[u8], base: usize, left: usize, out: &mut [u32], n: usize) -> Walk
 }
 
 // A flag, and a list of nodes if it is 1.
-#[cycle(arms_assign_body_branch_branches_call_choice_choice_nodes_conditional_else_arm_exact_first_front_list_last_last_leaves_list_lists_options_record_set_switch_test)]
+#[cycle(walk)]
 fn else_arm(s: &[u8], base: usize, left: usize, out: &mut [u32], n: usize) -> Walk
     requires { base + length s.now < 2 ^ 20 }
     ensures { Told (run keeping base (st out.old n) (or_else (record_of left) s.now)) result out.new }
@@ -309,7 +309,7 @@ fn else_arm(s: &[u8], base: usize, left: usize, out: &mut [u32], n: usize) -> Wa
 }
 
 // A list of nodes in a branch, and nothing more.
-#[cycle(arms_assign_body_branch_branches_call_choice_choice_nodes_conditional_else_arm_exact_first_front_list_last_last_leaves_list_lists_options_record_set_switch_test)]
+#[cycle(walk)]
 fn last(s: &[u8], base: usize, left: usize, out: &mut [u32], n: usize) -> Walk
     requires { base + length s.now < 2 ^ 20 }
     ensures { Told (run keeping base (st out.old n) (last Role.Branch (record_of left) s.now)) result out.new }
@@ -328,7 +328,7 @@ fn last(s: &[u8], base: usize, left: usize, out: &mut [u32], n: usize) -> Walk
 }
 
 // Lists of nodes to the end.
-#[cycle(arms_assign_body_branch_branches_call_choice_choice_nodes_conditional_else_arm_exact_first_front_list_last_last_leaves_list_lists_options_record_set_switch_test)]
+#[cycle(walk)]
 fn lists(s: &[u8], base: usize, left: usize, out: &mut [u32], n: usize) -> Walk
     requires { base + length s.now < 2 ^ 20 }
     ensures { Told (run keeping base (st out.old n) (repeat (listed (record_of left Role.Node)) s.now)) result out.new }
@@ -357,7 +357,7 @@ fn lists(s: &[u8], base: usize, left: usize, out: &mut [u32], n: usize) -> Walk
 }
 
 // A choice: a label, conditions and nodes. Where the nodes leave, its number, the one kept last before it is read, gets the bit for it.
-#[cycle(arms_assign_body_branch_branches_call_choice_choice_nodes_conditional_else_arm_exact_first_front_list_last_last_leaves_list_lists_options_record_set_switch_test)]
+#[cycle(walk)]
 fn choice(s: &[u8], base: usize, left: usize, out: &mut [u32], n: usize) -> Walk
     requires { base + length s.now < 2 ^ 20 }
     ensures { Told (run keeping base (st (put_leaves (end_with_divert (choice_body s.now)) n out.old) n) (flagged (options (record_of left)) (named (options (record_of left))) s.now)) result out.new }
@@ -373,7 +373,7 @@ fn choice(s: &[u8], base: usize, left: usize, out: &mut [u32], n: usize) -> Walk
 }
 
 // A list of conditions, and the nodes of a choice.
-#[cycle(arms_assign_body_branch_branches_call_choice_choice_nodes_conditional_else_arm_exact_first_front_list_last_last_leaves_list_lists_options_record_set_switch_test)]
+#[cycle(walk)]
 fn options(s: &[u8], base: usize, left: usize, out: &mut [u32], n: usize) -> NodesRead
     requires { base + length s.now < 2 ^ 20 }
     ensures { ToldNodes (run keeping base (st out.old n) (options (record_of left) s.now)) (end_with_divert (second_list s.now)) result out.new }
@@ -392,7 +392,7 @@ fn options(s: &[u8], base: usize, left: usize, out: &mut [u32], n: usize) -> Nod
 }
 
 // The nodes of a choice, a list, and nothing more.
-#[cycle(arms_assign_body_branch_branches_call_choice_choice_nodes_conditional_else_arm_exact_first_front_list_last_last_leaves_list_lists_options_record_set_switch_test)]
+#[cycle(walk)]
 fn choice_nodes(s: &[u8], base: usize, left: usize, out: &mut [u32], n: usize) -> NodesRead
     requires { base + length s.now < 2 ^ 20 }
     ensures { ToldNodes (run keeping base (st out.old n) (last Role.Node (record_of left) s.now)) (end_with_divert (spanned (list_of s.now) s.now)) result out.new }
@@ -408,7 +408,7 @@ fn choice_nodes(s: &[u8], base: usize, left: usize, out: &mut [u32], n: usize) -
 }
 
 // Nodes of a choice to the end, and whether they leave: the last that is no Newline does.
-#[cycle(arms_assign_body_branch_branches_call_choice_choice_nodes_conditional_else_arm_exact_first_front_list_last_last_leaves_list_lists_options_record_set_switch_test)]
+#[cycle(walk)]
 fn last_leaves(s: &[u8], base: usize, left: usize, out: &mut [u32], n: usize) -> NodesRead
     requires { base + length s.now < 2 ^ 20 }
     ensures { ToldNodes (run keeping base (st out.old n) (records (record_of left Role.Node) s.now)) (end_with_divert s.now) result out.new }
@@ -449,7 +449,7 @@ fn last_leaves(s: &[u8], base: usize, left: usize, out: &mut [u32], n: usize) ->
 }
 
 // An expression, and branches to the end.
-#[cycle(arms_assign_body_branch_branches_call_choice_choice_nodes_conditional_else_arm_exact_first_front_list_last_last_leaves_list_lists_options_record_set_switch_test)]
+#[cycle(walk)]
 fn switch(s: &[u8], base: usize, left: usize, out: &mut [u32], n: usize) -> Walk
     requires { base + length s.now < 2 ^ 20 }
     ensures { Told (run keeping base (st out.old n) (front (record_of left Role.Visited) (repeat (branch (record_of left))) s.now)) result out.new }
@@ -462,7 +462,7 @@ fn switch(s: &[u8], base: usize, left: usize, out: &mut [u32], n: usize) -> Walk
 }
 
 // Branches to the end.
-#[cycle(arms_assign_body_branch_branches_call_choice_choice_nodes_conditional_else_arm_exact_first_front_list_last_last_leaves_list_lists_options_record_set_switch_test)]
+#[cycle(walk)]
 fn branches(s: &[u8], base: usize, left: usize, out: &mut [u32], n: usize) -> Walk
     requires { base + length s.now < 2 ^ 20 }
     ensures { Told (run keeping base (st out.old n) (repeat (branch (record_of left)) s.now)) result out.new }
@@ -487,7 +487,7 @@ fn branches(s: &[u8], base: usize, left: usize, out: &mut [u32], n: usize) -> Wa
 }
 
 // A branch at the front, a test and a list of nodes: the place after it.
-#[cycle(arms_assign_body_branch_branches_call_choice_choice_nodes_conditional_else_arm_exact_first_front_list_last_last_leaves_list_lists_options_record_set_switch_test)]
+#[cycle(walk)]
 fn branch(s: &[u8], base: usize, left: usize, out: &mut [u32], n: usize) -> PieceRead
     requires { base + length s.now < 2 ^ 20 }
     ensures { ToldTo (run keeping base (st out.old n) (branch (record_of left) nothing s.now)) (branch_end s.now) result out.new }
@@ -504,7 +504,7 @@ fn branch(s: &[u8], base: usize, left: usize, out: &mut [u32], n: usize) -> Piec
 }
 
 // The test of a branch, a flag and an expression if it is 1: the place after it.
-#[cycle(arms_assign_body_branch_branches_call_choice_choice_nodes_conditional_else_arm_exact_first_front_list_last_last_leaves_list_lists_options_record_set_switch_test)]
+#[cycle(walk)]
 fn test(s: &[u8], base: usize, left: usize, out: &mut [u32], n: usize) -> PieceRead
     requires { base + length s.now < 2 ^ 20 }
     ensures { ToldTo (run keeping base (st out.old n) (tested (record_of left) nothing s.now)) (test_end s.now) result out.new }
@@ -524,7 +524,7 @@ fn test(s: &[u8], base: usize, left: usize, out: &mut [u32], n: usize) -> PieceR
 }
 
 // The list of a role at the front: the place after it.
-#[cycle(arms_assign_body_branch_branches_call_choice_choice_nodes_conditional_else_arm_exact_first_front_list_last_last_leaves_list_lists_options_record_set_switch_test)]
+#[cycle(walk)]
 fn front_list(
     s: &[u8],
     role: Role,
@@ -547,7 +547,7 @@ fn front_list(
 }
 
 // The record of a role at the front: the place after it.
-#[cycle(arms_assign_body_branch_branches_call_choice_choice_nodes_conditional_else_arm_exact_first_front_list_last_last_leaves_list_lists_options_record_set_switch_test)]
+#[cycle(walk)]
 fn first(s: &[u8], role: Role, base: usize, left: usize, out: &mut [u32], n: usize) -> PieceRead
     requires { base + length s.now < 2 ^ 20 }
     ensures { ToldTo (run keeping base (st out.old n) (front (record_of left role) nothing s.now)) (head_end s.now) result out.new }
@@ -566,7 +566,7 @@ fn first(s: &[u8], role: Role, base: usize, left: usize, out: &mut [u32], n: usi
 }
 
 // A mode, a name and an expression.
-#[cycle(arms_assign_body_branch_branches_call_choice_choice_nodes_conditional_else_arm_exact_first_front_list_last_last_leaves_list_lists_options_record_set_switch_test)]
+#[cycle(walk)]
 fn assign(s: &[u8], base: usize, left: usize, out: &mut [u32], n: usize) -> Walk
     requires { base + length s.now < 2 ^ 20 }
     ensures { Told (run keeping base (st out.old n) (moded (named (exact 1 (record_of left Role.Visited))) s.now)) result out.new }
@@ -582,7 +582,7 @@ fn assign(s: &[u8], base: usize, left: usize, out: &mut [u32], n: usize) -> Walk
 }
 
 // A name and an expression.
-#[cycle(arms_assign_body_branch_branches_call_choice_choice_nodes_conditional_else_arm_exact_first_front_list_last_last_leaves_list_lists_options_record_set_switch_test)]
+#[cycle(walk)]
 fn set(s: &[u8], base: usize, left: usize, out: &mut [u32], n: usize) -> Walk
     requires { base + length s.now < 2 ^ 20 }
     ensures { Told (run keeping base (st out.old n) (named (exact 1 (record_of left Role.Visited)) s.now)) result out.new }

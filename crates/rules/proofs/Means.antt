@@ -59,8 +59,8 @@ module _ (s : Story) (n : Bytes) where
   unfolding known
   found = either is-valid is-ending
 
-  call_passes : Means (call_passes (known s) n) (CallPasses s n)
-  call_passes = either3 a-function an-external (member n builtins)
+  call-passes : Means (call_passes (known s) n) (CallPasses s n)
+  call-passes = either3 a-function an-external (member n builtins)
 
 -- what a scope adds
 label-in : (l : List Item) (n : Bytes) → Means (label_in l n) (LabelIn l n)
@@ -116,7 +116,7 @@ pub broken-means : (s : Story) (sc : Scope) (before : List What) (r : Rule) (w :
 unfolding broken Broken
 broken-means s sc before FunctionDivertedTo w = three (a-target w) (fails (pass w.name)) (a-function s w.name)
 broken-means s sc before TargetNotFound w = four (a-target w) (fails (pass w.name)) (fails (a-function s w.name)) (fails (found s w.name))
-broken-means s sc before FlowCalled w = three (kind call w) (fails (call_passes s w.name)) (a-flow s w.name)
+broken-means s sc before FlowCalled w = three (kind call w) (fails (call-passes s w.name)) (a-flow s w.name)
 broken-means s sc before NameIsFunction w = both (either (kind temp w) (kind parameter w)) (a-function s w.name)
 broken-means s sc before NameIsGlobal w = both (either (kind parameter w) (kind stitchName w)) (a-global s w.name)
 broken-means s sc before TempIsParameter w = both (kind temp w) (a-param s w.name sc)

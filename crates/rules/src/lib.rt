@@ -1,10 +1,11 @@
 // The rules of a story, by what is broken.
+#![tactic(auto)]
 
 ghost use Rattle.std.specs.Prelude.{◌≡◌};
 ghost use Rattle.rules.specs.Rules.{number};
 
 // The fifteen rules, in the order of their numbers.
-#[derive(Drop)]
+#[derive(Clone, Copy)]
 pub enum Rule {
     FunctionDivertedTo,
     TargetNotFound,

@@ -7,7 +7,7 @@ use story::HeadingRead;
 use story::headings::read_heading;
 
 // A stitch: the count bytes of its name, its parameters and its divert parameters, its nodes, and its end.
-#[derive(Drop)]
+#[derive(Clone, Copy)]
 pub struct StitchView {
     pub name: usize,
     pub params: usize,
@@ -18,14 +18,14 @@ pub struct StitchView {
 }
 
 // The view of a stitch, or that there is none.
-#[derive(Drop)]
+#[derive(Clone, Copy)]
 pub enum StitchViewRead {
     View(StitchView),
     None,
 }
 
 // A flow: its first byte, its flag, the places as of a stitch, its stitches, and its end.
-#[derive(Drop)]
+#[derive(Clone, Copy)]
 pub struct FlowView {
     pub at: usize,
     pub function: bool,
@@ -39,7 +39,7 @@ pub struct FlowView {
 }
 
 // The view of a flow, or that there is none.
-#[derive(Drop)]
+#[derive(Clone, Copy)]
 pub enum FlowViewRead {
     View(FlowView),
     None,

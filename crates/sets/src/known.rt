@@ -22,7 +22,7 @@ pub const FLOW: usize = 2;
 pub const FUNCTION: usize = 3;
 
 // The offsets from which on the names of the globals, of the externals and of the flows are not in the set.
-#[derive(Drop)]
+#[derive(Clone, Copy)]
 pub struct Names {
     pub globals: usize,
     pub externals: usize,

@@ -1,6 +1,7 @@
 // Sets of the names of a file, in lent slices, each name in a class. A slot is 0, or has a name: 1 + its place, and above that a tag,
 // the class with some bits of the hash, so that most other names are told apart without reading the file. A name stands in the first
 // slot that was empty from its home on; the slots are not gone round, and every slot up to the last is tried.
+#![tactic(auto)]
 ghost use Rattle.std.specs.Prelude.{◌≡◌, ◌∷◌, ◌<◌};
 ghost use Rattle.names.specs.Words.{same, one_of};
 ghost use Rattle.names.specs.Counted.{name_at};
@@ -15,7 +16,7 @@ pub mod known;
 pub mod members;
 
 // Where the walk over the slots of a word ends: at the word, at an empty slot, or past the last slot.
-#[derive(Drop)]
+#[derive(Clone, Copy)]
 pub enum Sought {
     Found,
     Vacant(usize),
@@ -23,7 +24,7 @@ pub enum Sought {
 }
 
 // What became of a name: the set has it now, had it before, or has no room for it.
-#[derive(Drop)]
+#[derive(Clone, Copy)]
 pub enum PutAnswer {
     Added,
     Known,

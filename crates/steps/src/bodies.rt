@@ -18,7 +18,7 @@ use crate::{Tally, is_full, pass_runs};
 use broken::{At, Rests, Thing};
 
 // Steps along a body: so many from the turn's step on, of a stitch's body or not, of a function's own list or not.
-#[derive(Drop)]
+#[derive(Clone, Copy)]
 pub struct Course {
     pub turn: Turn,
     pub many: u8,

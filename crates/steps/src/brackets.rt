@@ -6,7 +6,7 @@ ghost use Rattle.steps.specs.Brackets.{step_at, rules_in};
 use rules::Rule;
 
 // The rules of a step: how many, and at most three; those that are not used repeat the first.
-#[derive(Drop)]
+#[derive(Clone, Copy)]
 pub struct Bracket {
     pub many: u8,
     pub first: Rule,

@@ -19,7 +19,7 @@ use searches::views::{FlowView, FlowViewRead, StitchView, StitchViewRead, flow_v
 
 // A knot whose steps run: the story, the flow, where its steps run, the numbers of the items from which on the names are in no set, and what
 // was heard before.
-#[derive(Drop)]
+#[derive(Clone, Copy)]
 pub struct Knot {
     pub story: StoryView,
     pub flow: FlowView,
@@ -29,7 +29,7 @@ pub struct Knot {
 }
 
 // A stitch of a knot, and the number of a kept item before its own.
-#[derive(Drop)]
+#[derive(Clone, Copy)]
 pub struct StitchTurn {
     pub knot: Knot,
     pub stitch: StitchView,
@@ -231,7 +231,7 @@ fn validate_knot(
 }
 
 // A flow, the number of a kept item before its own, and what was heard before.
-#[derive(Drop)]
+#[derive(Clone, Copy)]
 pub struct FlowTurn {
     pub story: StoryView,
     pub flow: FlowView,
@@ -281,7 +281,7 @@ fn knot_room(slots: usize, v: FlowView) -> usize
 }
 
 // The story and what was heard before.
-#[derive(Drop)]
+#[derive(Clone, Copy)]
 pub struct StoryTurn {
     pub story: StoryView,
     pub start: usize,

@@ -19,7 +19,7 @@ use broken::{At, Rests, Scope, StoryView, Thing};
 
 // A heading: the story, where the steps on it run, the numbers of the items from which on the names are in no set, the place of the stitch's name or
 // of the flow's first byte, whether the flow is a function, and what was heard before.
-#[derive(Drop)]
+#[derive(Clone, Copy)]
 pub struct Heading {
     pub story: StoryView,
     pub scope: Scope,
@@ -30,7 +30,7 @@ pub struct Heading {
 }
 
 // A name to visit: the step at hand, the name's sort, the place of the breach, and the place of the name.
-#[derive(Drop)]
+#[derive(Clone, Copy)]
 pub struct NameVisit {
     pub turn: Turn,
     pub sort: u8,

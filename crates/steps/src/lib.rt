@@ -1,4 +1,5 @@
 // What is heard along the runs of a story: breaches one after the other, up to a limit, counted, and written to a lent list.
+#![tactic(auto)]
 pub mod bodies;
 pub mod brackets;
 pub mod context;
@@ -22,7 +23,7 @@ pub const ABSENT: usize = 4294967295;
 const LAST: usize = 4294967295;
 
 // What was heard so far: at most how many breaches, how many, the number of the run, and the last breach with the places of its names.
-#[derive(Drop)]
+#[derive(Clone, Copy)]
 pub struct Tally {
     pub limit: usize,
     pub count: usize,
@@ -34,7 +35,7 @@ pub struct Tally {
 }
 
 // The places of the two names in a breach's text.
-#[derive(Drop)]
+#[derive(Clone, Copy)]
 pub struct Names {
     pub first: usize,
     pub second: usize,

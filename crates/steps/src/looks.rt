@@ -14,7 +14,7 @@ use rules::Rule;
 use sets::members::put_next;
 
 // Which body is looked at: a stitch's, or the own list of a function.
-#[derive(Drop)]
+#[derive(Clone, Copy)]
 pub struct Look {
     pub inner: bool,
     pub function: bool,

@@ -22,7 +22,7 @@ const FIRST_OF_GATHERS: u8 = 18;
 
 // A step along a body: the story, where it runs, the numbers of the items from which on the names are in no set, the step's number, and what was
 // heard before.
-#[derive(Drop)]
+#[derive(Clone, Copy)]
 pub struct Turn {
     pub story: StoryView,
     pub scope: Scope,

@@ -15,7 +15,7 @@ use items::items::{choice_has_explicit_divert, in_branch, named_at, sort_in};
 use rules::Rule;
 
 // A visit: the thing with all that a rule may ask, the rules, the places of the breach and of the thing's name, and what was heard before.
-#[derive(Drop)]
+#[derive(Clone, Copy)]
 pub struct Visit {
     pub at: At,
     pub rules: Bracket,

@@ -138,10 +138,10 @@ module _ (x : Span) {r : Reach} where
   unfolding name_then
   name-then-refused s y e q = rw (span-refused 1 x e y q)
 
-  pub list_at : (params marks list to : ℕ) → r ≡ span_reach 4 x → r ≡ reach.To to
+  pub list-at : (params marks list to : ℕ) → r ≡ span_reach 4 x → r ≡ reach.To to
       → heading.At (record { params = params; marks = marks; nodes = list + 4; end = list + to }) ≡ list_at params marks list x
   unfolding list_at
-  list_at params marks list to e q =
+  list-at params marks list to e q =
       let h = span_to 4 x e to q in
       let ends : list + 4 + (to - 4) ≡ list + to = omega (arith, h.1) in
       rw (h.0, ends)

@@ -1,4 +1,5 @@
 // The story file: trailer and sections, the headings of flows and stitches, and the reading pass over a whole file.
+#![tactic(auto)]
 ghost use Rattle.std.specs.Prelude.{◌≡◌};
 ghost use Rattle.records.specs.Work.{run, st, keeping, Told};
 ghost use Rattle.records.specs.Buffers.{cleared};
@@ -16,7 +17,7 @@ use fields::Refusal;
 use records::{MET, Walk, walk_nodes};
 
 // The sections' starts after the first, which is 0, and the place of the trailer.
-#[derive(Drop)]
+#[derive(Clone, Copy)]
 pub struct Sections {
     pub externals: usize,
     pub root: usize,
@@ -25,21 +26,21 @@ pub struct Sections {
 }
 
 // The sections, or the refusal.
-#[derive(Drop)]
+#[derive(Clone, Copy)]
 pub enum Opened {
     At(Sections),
     Refused(Refusal),
 }
 
 // How reading ends.
-#[derive(Drop)]
+#[derive(Clone, Copy)]
 pub enum Ended {
     Well,
     Refused(Refusal),
 }
 
 // Where the parts of a flow or a stitch begin, from its name's count byte on: the two counts of parameters, its nodes, and what follows them.
-#[derive(Drop)]
+#[derive(Clone, Copy)]
 pub struct Heading {
     pub params: usize,
     pub marks: usize,
@@ -48,14 +49,14 @@ pub struct Heading {
 }
 
 // The heading, or the refusal.
-#[derive(Drop)]
+#[derive(Clone, Copy)]
 pub enum HeadingRead {
     At(Heading),
     Refused(Refusal),
 }
 
 // What reading a file answers: its sections, how many of its records were kept, and how many there are; or the refusal.
-#[derive(Drop)]
+#[derive(Clone, Copy)]
 pub enum StoryRead {
     At(Sections, usize, usize),
     Refused(Refusal),

@@ -1,4 +1,5 @@
 // The index of a story: its entries, written as three numbers each, and found by a target.
+#![tactic(auto)]
 pub mod entries;
 pub mod targets;
 
@@ -6,7 +7,7 @@ pub mod targets;
 pub const ABSENT: u32 = 4294967295;
 
 // An entry of the index: the places of the count bytes of its flow's, its stitch's and its own name.
-#[derive(Drop)]
+#[derive(Clone, Copy)]
 pub struct Places {
     pub flow: u32,
     pub stitch: u32,
@@ -14,7 +15,7 @@ pub struct Places {
 }
 
 // How a target fits a spelling: it is the spelling, or the spelling ends in "." and the target.
-#[derive(Drop)]
+#[derive(Clone, Copy)]
 pub enum Fit {
     Exact,
     Ending,
@@ -22,7 +23,7 @@ pub enum Fit {
 }
 
 // The number of an entry, or none.
-#[derive(Drop)]
+#[derive(Clone, Copy)]
 pub enum Found {
     At(usize),
     Nowhere,

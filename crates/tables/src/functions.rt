@@ -13,7 +13,7 @@ use searches::views::{FlowView, FlowViewRead, flow_view};
 use story::{Opened, Sections};
 
 // Where a walk over the slots of a name ends: at the name, at an empty slot, or past the last slot that is tried.
-#[derive(Drop)]
+#[derive(Clone, Copy)]
 pub enum Sought {
     Found,
     Vacant(usize),

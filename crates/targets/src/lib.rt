@@ -1,5 +1,6 @@
 // The targets that a story's entries answer, in a set: the dotted ends of their spellings. A slot is 0, or has an end: 1 + the place of its first
 // name, the numbers of the second and the third, 20 bits each, and above that how many dots of the first name come before the end.
+#![tactic(auto)]
 ghost use Rattle.std.specs.Prelude.{◌≡◌, [], ◌∷◌, ◌<◌};
 ghost use Rattle.names.specs.Words.{same, one_of};
 ghost use Rattle.sets.specs.Hashes.{hash_of};
@@ -20,7 +21,7 @@ pub mod entries;
 pub const ABSENT: u32 = 4294967295;
 
 // An entry of the index: the places of the count bytes of its flow's, its stitch's and its own name.
-#[derive(Drop)]
+#[derive(Clone, Copy)]
 pub struct Places {
     pub flow: u32,
     pub stitch: u32,
@@ -29,7 +30,7 @@ pub struct Places {
 
 // An end of a spelling: what follows so many dots of the name at the place `first`, and the names of the two numbers after it, each with a dot
 // before it. The number of a name is 1 + its place, and 0 is the number of none.
-#[derive(Drop)]
+#[derive(Clone, Copy)]
 pub struct DottedEnd {
     pub first: usize,
     pub second: usize,

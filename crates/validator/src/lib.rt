@@ -1,4 +1,5 @@
 // The check of a story file: refusals, index, rules and text.
+#![tactic(auto)]
 ghost use Rattle.std.specs.Prelude.{◌≤◌, ◌*◌, length};
 ghost use Rattle.story.specs.declared.Opened.TheVariants as Opened;
 ghost use Rattle.story.specs.File.{story_in};
@@ -20,7 +21,7 @@ use tables::functions::put_functions;
 use tables::hints::put_hints;
 
 // A breach: the rule, the place, the places of the two names for the text, how many entries the index has, and how long the text is.
-#[derive(Drop)]
+#[derive(Clone, Copy)]
 pub struct Breach {
     pub rule: Rule,
     pub place: usize,
@@ -31,7 +32,7 @@ pub struct Breach {
 }
 
 // Accepted, with the number of entries; a breach; the reader's refusal, 1 to 6; refusals 7 and 8.
-#[derive(Drop)]
+#[derive(Clone, Copy)]
 pub enum Answer {
     Accepted(usize),
     Breached(Breach),

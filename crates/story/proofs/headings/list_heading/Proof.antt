@@ -3,7 +3,7 @@ use native.Mathlib.Omega.{arith}
 use lib.ListN.{drop}
 use Rattle.fields.specs.Bytes.{list_of}
 use Rattle.fields.proofs.Laws.{list-within, to_end}
-use Rattle.story.proofs.Reaches.{list_at, list-at-refused}
+use Rattle.story.proofs.Reaches.{list-at, list-at-refused}
 use borrow.Author.Rules.{rules}
 use Rattle.story.proofs.headings.list_heading.Statement.{statement}
 use Rattle.story.proofs.headings.list_heading.Tie as tie
@@ -24,7 +24,7 @@ returns-2 : tie.Need-returns-2
 returns-2 c =
     let a = c.before.before.before.before.before.before.args in
     let k = c.before.reach2.given in
-    list_at (list_of (drop a.list a.s.now)) a.params a.marks a.list k.0.0 (rw (to_end a.list a.s.now) at c.before.before.before.read-list.ensures) k.1
+    list-at (list_of (drop a.list a.s.now)) a.params a.marks a.list k.0.0 (rw (to_end a.list a.s.now) at c.before.before.before.read-list.ensures) k.1
 
 pub list-heading-spec : {M : Type 1} → statement M
 list-heading-spec = tie.close (tie.spec (λ c. search rules) (λ c. search rules) (λ c. search rules) (λ c κs. search rules) (λ c. search rules) (λ c. search rules) add-nodes add-end returns returns-2)
