@@ -61,13 +61,13 @@ spaced-wider : {lo hi lo' hi' : ℕ} (t : Trace) → lo' ≤ lo → hi ≤ hi' �
 unfolding Spaced
 spaced-wider done p q h = tt
 spaced-wider (refuse r) p q h = tt
-spaced-wider (emit role kind a bs t) p q h = (omega (arith, h.0), spaced-wider t (omega arith) q h.1)
+spaced-wider {lo = lo} {hi = hi} {lo' = lo'} {hi' = hi'} (emit role kind a bs t) p q h = (omega (arith, h.0), spaced-wider {lo = a + 5} t (omega arith) q h.1)
 
 spaced-then : {lo mid hi : ℕ} (t u : Trace) → lo ≤ mid → mid ≤ hi → Spaced lo mid t → Spaced mid hi u → Spaced lo hi (and_then t u)
 unfolding Spaced and_then
 spaced-then done u p q g h = spaced-wider u p (omega arith) h
 spaced-then (refuse r) u p q g h = tt
-spaced-then (emit role kind a bs t) u p q g h = (omega (arith, g.0), spaced-then t u (omega (arith, g.0)) q g.1 h)
+spaced-then {lo = lo} {mid = mid} {hi = hi} (emit role kind a bs t) u p q g h = (omega (arith, g.0), spaced-then {lo = a + 5} t u (omega (arith, g.0)) q g.1 h)
 
 spaced-shift : (a lo hi : ℕ) (t : Trace) → Spaced lo hi t → Spaced (a + lo) (a + hi) (shift a t)
 unfolding Spaced shift
