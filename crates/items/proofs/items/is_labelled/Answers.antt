@@ -2,12 +2,8 @@
 use mathlib.Core.Path.{sym}
 use Rattle.records.specs.Numbers.{labels_in}
 use Rattle.items.proofs.Sorts.{item-labels}
-use Rattle.items.proofs.items.is_labelled.Statement.{statement}
-use Rattle.items.proofs.items.is_labelled.Tie as tie
+use Rattle.items.proofs.items.is_labelled.Goals as goal
 
-returns : tie.Need-returns
+pub returns : goal.returns
 unfolding labels_in
 returns c = λ file. sym (item-labels file c.args.item)
-
-pub is-labelled-spec : {M : Type 1} → statement M
-is-labelled-spec = tie.close (tie.spec returns)

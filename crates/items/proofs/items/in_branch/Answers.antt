@@ -2,12 +2,8 @@
 use mathlib.Core.Path.{sym}
 use Rattle.records.specs.Numbers.{branch_in}
 use Rattle.items.proofs.Sorts.{item-branch}
-use Rattle.items.proofs.items.in_branch.Statement.{statement}
-use Rattle.items.proofs.items.in_branch.Tie as tie
+use Rattle.items.proofs.items.in_branch.Goals as goal
 
-returns : tie.Need-returns
+pub returns : goal.returns
 unfolding branch_in
 returns c = λ file. sym (item-branch file c.args.item)
-
-pub in-branch-spec : {M : Type 1} → statement M
-in-branch-spec = tie.close (tie.spec returns)

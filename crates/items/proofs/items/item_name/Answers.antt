@@ -1,0 +1,17 @@
+-- `item_name`: the name begins in the payload where the sort says, unless there is none. Assumes nothing.
+use Rattle.items.proofs.Sorts.{item-nameless, item-named-there}
+use Rattle.items.proofs.items.item_name.Goals as goal
+
+pub returns-then-is_nameless : goal.returns-then-is_nameless
+returns-then-is_nameless c =
+    let file = c.args.file.now in
+    item-nameless file c.args.item (rw (← c.place_in.ensures.0) c.payload_at-payload.ensures)
+    (c.is_nameless.ensures _ (c.sort_in-sort.ensures file)) c.if-is_nameless.true
+
+pub returns : goal.returns
+returns c =
+    let file = c.args.file.now in
+    let sort-in = c.sort_in-sort in
+    let is-nameless = c.is_nameless in
+    item-named-there file c.args.item (rw (← c.place_in.ensures.0) c.payload_at-payload.ensures)
+    (is-nameless.ensures _ (sort-in.ensures file)) c.if-is_nameless.false (c.name_start.ensures _ (sort-in.ensures file)) c.name_at.ensures

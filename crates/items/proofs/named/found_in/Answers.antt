@@ -1,0 +1,25 @@
+-- `found_in`. The loop's invariant: no item before `i` passes. Assumes nothing.
+use mathlib.Core.Path.{sym}
+use Prim.Native.Nat.{◌-◌}
+use native.Mathlib.Omega.{arith}
+use Rattle.items.specs.Search.{found_among}
+use Rattle.items.proofs.Numbered.{items-length, item-there}
+use Rattle.items.proofs.Searching.{passed_start, passed-end, passed-found, passed-next}
+use Rattle.items.proofs.named.found_in.Goals as goal
+
+pub loop-i-init : goal.loop-i-init
+loop-i-init c = (omega arith, passed_start _ _)
+
+pub returns-then-bears_name : goal.returns-then-bears_name
+unfolding found_among
+returns-then-bears_name c =
+    sym (passed-found c.loop-i.invariant.1 (item-there c.args.file.now c.args.items.now (omega arith)) c.bears_name.ensures c.if-bears_name.true)
+
+pub loop-i-preserved : goal.loop-i-preserved
+loop-i-preserved c =
+    (omega arith, passed-next c.loop-i.invariant.1 (item-there c.args.file.now c.args.items.now (omega arith)) c.bears_name.ensures c.if-bears_name.false)
+
+pub returns : goal.returns
+unfolding found_among
+returns c =
+    sym (passed-end c.loop-i.invariant.1 (omega (arith, items-length c.args.file.now c.args.items.now)))
