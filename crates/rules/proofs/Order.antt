@@ -68,7 +68,7 @@ module _ (s t : Story) (f g : Flow) (h : AlikeFlow Shuffled f g) where
   alike-flow : here s (knot f) ≡ here t (knot g)
   unfolding here
   alike-flow = same_here (here s (knot f)) (here t (knot g)) (λ n. rw h.params) (λ n. rw h.marks) (alike-labels f g h) (λ n. refl)
-      (any-paired (AlikeStitch Shuffled) _ _ (λ a b i. refl) f.stitches g.stitches h.stitches)
+      (any-paired (AlikeStitch Shuffled) (λ (x : Stitch). true) (λ (x : Stitch). true) (λ a b i. refl) f.stitches g.stitches h.stitches)
 
   alike-stitch : (a b : Stitch) → AlikeStitch Shuffled a b → here s (stitch f a) ≡ here t (stitch g b)
   unfolding here

@@ -1,0 +1,12 @@
+-- `tables::clear` meets its contract. The loop's invariant: the slots before i are empty. Assumes nothing.
+use mathlib.Core.Path.{◌≡◌}
+use Prim.Native.Nat.{◌-◌}
+use lib.ListN.{length}
+use Rattle.tables.proofs.Tables.{EmptyBefore}
+use Rattle.tables.proofs.clear.Given as goal
+
+abbrev pub invariant-loop-i : goal.invariant-loop-i
+invariant-loop-i l = (length l.table ≡ length l.initial.table) × EmptyBefore l.table l.i
+
+abbrev pub decreases-loop-i : goal.decreases-loop-i
+decreases-loop-i l = length l.table - l.i
