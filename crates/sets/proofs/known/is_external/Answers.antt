@@ -1,0 +1,12 @@
+-- `sets::known::is_external` meets its contract: the set decides, and then the names that are not in it. Assumes nothing.
+use Rattle.sets.proofs.Holding.{holding-found}
+use Rattle.sets.proofs.Sections.{section-left}
+use Rattle.sets.proofs.known.is_external.Goals as goal
+
+pub returns-then-has : goal.returns-then-has
+returns-then-has c =
+    holding-found c.requires.names_in.externals c.args.name.now c.has.ensures c.if-has.true
+
+pub returns : goal.returns
+returns c =
+    section-left c.args.file.now c.args.n.externals c.args.c.root c.requires.names_in.externals c.args.name.now c.has.ensures c.if-has.false c.section_has_name.ensures

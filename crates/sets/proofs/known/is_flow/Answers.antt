@@ -1,0 +1,12 @@
+-- `sets::known::is_flow` meets its contract: the set decides, and then the flows that are not in it. Assumes nothing.
+use mathlib.Core.Bool.{false}
+use Rattle.sets.proofs.Flows.{flow-found, flow-left}
+use Rattle.sets.proofs.known.is_flow.Goals as goal
+
+pub returns-then-has : goal.returns-then-has
+returns-then-has c =
+    flow-found c.requires.names_in.flows false c.args.name.now c.has.ensures c.if-has.true
+
+pub returns : goal.returns
+returns c =
+    flow-left c.requires.names_in.flows false c.args.name.now c.has.ensures c.if-has.false c.is_flow_name.ensures

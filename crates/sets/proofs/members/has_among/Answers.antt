@@ -1,0 +1,11 @@
+-- `sets::members::has_among` meets its contract: the set decides, and then the items that were left. Assumes nothing.
+use Rattle.sets.proofs.Passing.{member-found, member-left}
+use Rattle.sets.proofs.members.has_among.Goals as goal
+
+pub returns-then-has : goal.returns-then-has
+returns-then-has c =
+    member-found c.requires.members c.args.name.now c.has.ensures c.if-has.true
+
+pub returns : goal.returns
+returns c =
+    member-left c.requires.members c.args.name.now c.has.ensures c.if-has.false c.found_in.ensures
