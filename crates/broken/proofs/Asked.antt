@@ -20,9 +20,9 @@ use Rattle.targets.specs.Spellings.{answers}
 use Rattle.targets.specs.Slots.{end_slots}
 use Rattle.targets.proofs.Filling.{targets-found, targets-whole}
 use Rattle.items.specs.Bodies.{kept_story}
-use Rattle.enumerator.specs.Index.{spellings}
+use Rattle.symbols.specs.Index.{spellings}
 use Rattle.enumerator.proofs.ReadBack.{places-spelled}
-use Rattle.enumerator.proofs.Plain.{spellings-plain}
+use Rattle.symbols.proofs.Plain.{spellings-plain}
 use Rattle.rules.specs.Rules.{known}
 use Rattle.broken.specs.declared.StoryView.{StoryView}
 use Rattle.broken.specs.Scopes.{known_in, TargetsReady}

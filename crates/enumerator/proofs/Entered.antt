@@ -14,7 +14,7 @@ use Rattle.targets.specs.Spellings.{answers}
 use Rattle.targets.specs.Slots.{end_slots}
 use Rattle.targets.proofs.Filling.{put_all}
 use Rattle.enumerator.specs.declared.Seen.{Seen}
-use Rattle.enumerator.specs.Index.{entries, spellings}
+use Rattle.symbols.specs.Index.{entries, spellings}
 use Rattle.enumerator.specs.Placed.{placed}
 use Rattle.enumerator.specs.Visited.{Visited}
 use Rattle.enumerator.specs.Entered.{Entered}

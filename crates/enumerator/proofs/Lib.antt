@@ -5,11 +5,9 @@ pub mod Labels
 pub mod Named
 pub mod Owners
 pub mod Placed
-pub mod Plain
 pub mod ReadBack
 pub mod Ready
 pub mod Rows
 pub mod Searched
-pub mod Spelled
 pub mod Stored
 pub mod Visited

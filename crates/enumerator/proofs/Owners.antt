@@ -14,7 +14,7 @@ use Rattle.story.specs.File.{story_in}
 use Rattle.story.proofs.Readable.{Readable}
 use Rattle.story.proofs.Places.{NameBefore}
 use Rattle.story.proofs.Owned.{Own, label_names, stitch_names, flow_names, own_names, story-own}
-use Rattle.enumerator.specs.Index.{Entry, alone, labelled, prefix, stitch_entries, flow_entries, entries}
+use Rattle.symbols.specs.Index.{Entry, alone, labelled, prefix, stitch_entries, flow_entries, entries}
 use Rattle.enumerator.specs.Numbers.{st, store_all}
 use Rattle.enumerator.specs.Placed.{placed, index_of}
 use Rattle.enumerator.proofs.Stored.{store-overlay}

@@ -10,11 +10,11 @@ use Rattle.records.specs.Items.{Item}
 use Rattle.story.specs.Story.{Name, Stitch, Flow, Story, own_name}
 use Rattle.story.specs.Plain.{without_plain, UnlabelledStory}
 use Rattle.targets.specs.declared.Places.{Places}
-use Rattle.enumerator.specs.Index.{Entry, alone, labelled, prefix, stitch_entries, flow_entries, entries}
+use Rattle.symbols.specs.Index.{Entry, alone, labelled, prefix, stitch_entries, flow_entries, entries}
 use Rattle.enumerator.specs.Numbers.{absent, number_of, places_of}
 use Rattle.enumerator.specs.Placed.{placed, names_placed, labels_placed, prefix_number, stitch_placed}
 use Rattle.enumerator.proofs.Named.{alone_at}
-use Rattle.enumerator.proofs.Plain.{entries-plain}
+use Rattle.symbols.proofs.Plain.{entries-plain}
 
 -- 1. Lists
 

@@ -18,10 +18,10 @@ use Rattle.story.specs.File.{story_in}
 use Rattle.story.proofs.Readable.{Readable}
 use Rattle.story.proofs.Owned.{label_names, stitch_names, flow_names, own_names, story-own}
 use Rattle.targets.specs.declared.Places.{Places}
-use Rattle.enumerator.specs.Index.{Entry, dotted, spelling, alone, labelled, prefix, stitch_entries, flow_entries, entries, spellings}
+use Rattle.symbols.specs.Index.{Entry, dotted, spelling, alone, labelled, prefix, stitch_entries, flow_entries, entries, spellings}
 use Rattle.enumerator.specs.Numbers.{absent, number_of, places_of, numbers}
 use Rattle.enumerator.specs.Placed.{placed, index_of}
-use Rattle.enumerator.specs.Stands.{NameStands, PartStands, EntryStands}
+use Rattle.symbols.specs.Stands.{NameStands, PartStands, EntryStands}
 use Rattle.enumerator.specs.Rows.{rows, dotted_in, spelling_in, spellings_in}
 use Rattle.enumerator.proofs.Placed.{placed-length}
 

@@ -16,10 +16,10 @@ use Rattle.targets.specs.declared.Places.{Places}
 use Rattle.targets.specs.Slots.{end_slots}
 use Rattle.targets.specs.Put.{NameFits}
 use Rattle.targets.specs.Entries.{PlacesFit}
-use Rattle.enumerator.specs.Index.{Entry, entries}
+use Rattle.symbols.specs.Index.{Entry, entries}
 use Rattle.enumerator.specs.Numbers.{number_of, places_of}
 use Rattle.enumerator.specs.Placed.{placed}
-use Rattle.enumerator.specs.Stands.{PartStands, EntryStands}
+use Rattle.symbols.specs.Stands.{PartStands, EntryStands}
 use Rattle.enumerator.specs.Visited.{Ready}
 use Rattle.enumerator.proofs.Placed.{placed-length}
 use Rattle.enumerator.proofs.Owners.{entries-few}

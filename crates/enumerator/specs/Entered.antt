@@ -4,7 +4,7 @@ use Rattle.story.specs.declared.Sections.{Sections}
 use Rattle.story.specs.File.{story_in}
 use Rattle.targets.specs.Entries.{TargetsIn}
 use Rattle.enumerator.specs.declared.Seen.{Seen}
-use Rattle.enumerator.specs.Index.{entries}
+use Rattle.symbols.specs.Index.{entries}
 use Rattle.enumerator.specs.Numbers.{st, store_all}
 use Rattle.enumerator.specs.Placed.{placed}
 

@@ -1,10 +1,7 @@
 -- The definitions on the index.
-pub mod Index
-pub mod Spelled
 pub mod Numbers
 pub mod Fits
 pub mod Rows
 pub mod Placed
-pub mod Stands
 pub mod Visited
 pub mod Entered

@@ -5,7 +5,7 @@ use Rattle.fields.specs.Bytes.{pick}
 use Rattle.story.specs.Story.{Name}
 use Rattle.targets.specs.declared.Places.{Places}
 pub use Rattle.targets.specs.Spellings.{absent}
-use Rattle.enumerator.specs.Index.{Entry}
+use Rattle.symbols.specs.Index.{Entry}
 
 -- THE ROOM of an index: three numbers for each byte before the trailer
 abbrev pub index_room : List ℕ → ℕ

@@ -5,7 +5,7 @@ use Rattle.records.specs.Buffers.{overlay}
 use Rattle.records.specs.Items.{Item}
 use Rattle.story.specs.Story.{Name, Stitch, Story}
 use Rattle.targets.specs.declared.Places.{Places}
-use Rattle.enumerator.specs.Index.{Entry, alone, entries}
+use Rattle.symbols.specs.Index.{Entry, alone, entries}
 use Rattle.enumerator.specs.Numbers.{absent, places_of, numbers}
 
 -- entries as places of names

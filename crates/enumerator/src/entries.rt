@@ -8,7 +8,7 @@ ghost use Rattle.story.specs.Flows.{names_n, counted_in, part, flows, flows_in, 
 ghost use Rattle.story.specs.File.{story_in};
 ghost use Rattle.records.specs.Numbers.{item_in};
 ghost use Rattle.items.specs.Bodies.{Range, items_at, Rising, kept_stitch, kept_stitches, kept_flow, Kept, StitchesKept, FlowsKept};
-ghost use Rattle.enumerator.specs.Index.{flow_entries, entries, spellings};
+ghost use Rattle.symbols.specs.Index.{flow_entries, entries, spellings};
 ghost use Rattle.enumerator.specs.Numbers.{st, store_all};
 ghost use Rattle.enumerator.specs.Placed.{placed, names_placed, labels_placed, prefix_number, stitch_placed};
 ghost use Rattle.sets.specs.Sets.{Reachable};

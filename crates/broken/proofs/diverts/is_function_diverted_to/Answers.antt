@@ -1,0 +1,15 @@
+-- `broken::diverts::is_function_diverted_to` meets its contract. Assumes nothing.
+use Rattle.rules.specs.Rules.{broken}
+use Rattle.broken.proofs.diverts.is_function_diverted_to.Goals as goal
+
+pub returns-then-passes : goal.returns-then-passes
+unfolding broken
+returns-then-passes c = λ h before w i. rw (← c.has_target.ensures c.args.file.now w i, c.if-has_target.true, i.named, ← c.name_at-target.ensures, ← c.passes.ensures, c.if-passes.true)
+
+pub returns-then-has_target : goal.returns-then-has_target
+unfolding broken
+returns-then-has_target c = λ h before w i. rw (← c.has_target.ensures c.args.file.now w i, c.if-has_target.true, i.named, ← c.name_at-target.ensures, ← c.passes.ensures, c.if-passes.false) c.is_function.ensures
+
+pub returns : goal.returns
+unfolding broken
+returns c = λ h before w i. rw (← c.has_target.ensures c.args.file.now w i, c.if-has_target.false)

@@ -1,0 +1,12 @@
+-- `enumerator::entries::has_target` meets its contract: the spellings of the entries are those of the story. Assumes nothing.
+use mathlib.Core.Path.{refl, ◌∙◌, ap}
+use Rattle.names.specs.Words.{any}
+use Rattle.enumerator.specs.Fits.{answers}
+use Rattle.story.proofs.Readable.{readable}
+use Rattle.enumerator.proofs.ReadBack.{places-spelled}
+use Rattle.enumerator.proofs.entries.has_target.Goals as goal
+
+pub returns : goal.returns
+returns c =
+    let file = c.args.file.now in
+    c.enumerate-met.ensures.asked ∙ ap (any (answers c.args.target.now)) (places-spelled c.args.c file (readable file c.args.c refl c.requires.read))

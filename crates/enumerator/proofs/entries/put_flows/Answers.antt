@@ -1,0 +1,60 @@
+-- `enumerator::entries::put_flows` meets its contract. The loop's invariant: what is left to be visited are the flows from `at` on,
+-- they can be read, and their items are kept. Assumes nothing.
+use mathlib.Core.Path.{ap, refl}
+use mathlib.Core.List.{map}
+use Prim.Native.Nat.{◌-◌}
+use native.Mathlib.Omega.{arith}
+use Rattle.story.specs.Plain.{flow_without_plain}
+use Rattle.searches.proofs.Viewed.{flow-laid}
+use Rattle.searches.proofs.Readable.{no_flow, flow-readable}
+use Rattle.items.proofs.Kept.{flow-stitches, flow-rest, flows-plain, flows-from}
+use Rattle.enumerator.proofs.Visited.{visiting-start, visiting-end, visiting-ready, visiting-many}
+use Rattle.enumerator.proofs.Placed.{flows-none, flows-next}
+use Rattle.enumerator.proofs.entries.put_flows.Goals as goal
+
+pub loop-v-init : goal.loop-v-init
+loop-v-init c =
+    ((c.requires.range.ordered, refl, refl), (c.requires.file_value, c.requires.flows_kept), visiting-start c.requires.ready.reachable)
+
+pub flow_view-requires : goal.flow_view-requires
+flow_view-requires c = (c.loop-v.invariant.0.0, c.requires.range.within)
+
+pub returns-in_default : goal.returns-in_default
+returns-in_default c =
+    visiting-end c.loop-v.invariant.2 (flows-none (ap (map flow_without_plain) (no_flow c.args.file.now c.loop-v.at c.args.end c.loop-v.invariant.1.0 c.flow_view.ensures c.in_default.is)))
+
+pub put_flow-met-requires : goal.put_flow-met-requires
+put_flow-met-requires c =
+    let file = c.args.file.now in
+    let end = c.args.end in
+    let loop = c.loop-v in
+    let r = c.requires.range in
+    let view = c.flow_view.ensures in
+    let l = flow-laid file loop.at end c.in-View.v view c.in-View.is in record { name_lt_params = (l.name, omega (arith, r.within), record { ordered = l.stitches; within = omega (arith, r.within); short = r.short }); file_value = (flow-readable file loop.at end loop.invariant.1.0 view c.in-View.v c.in-View.is).own; stitches_kept = flow-stitches file _ loop.at end loop.invariant.0.0 r.within r.short loop.invariant.1.0 loop.invariant.1.1 c.in-View.v view c.in-View.is; ready = visiting-ready loop.invariant.2 _ _
+              (flows-next (flows-plain file _ loop.at end loop.invariant.0.0 r.within r.short loop.invariant.1.0 loop.invariant.1.1 c.in-View.v view c.in-View.is))
+              c.requires.ready }
+
+pub items_from-next-requires : goal.items_from-next-requires
+items_from-next-requires c = c.loop-v.invariant.1.1.rising
+
+pub loop-v-smaller : goal.loop-v-smaller
+loop-v-smaller c =
+    let l = flow-laid c.args.file.now c.loop-v.at c.args.end c.in-View.v c.flow_view.ensures c.in-View.is in omega (arith, c.loop-v.invariant.0)
+
+pub loop-v-preserved : goal.loop-v-preserved
+loop-v-preserved c =
+    let file = c.args.file.now in
+    let end = c.args.end in
+    let loop = c.loop-v in
+    let r = c.requires.range in
+    let view = c.flow_view.ensures in
+    let l = flow-laid file loop.at end c.in-View.v view c.in-View.is in (
+      omega (arith, loop.invariant.0, c.put_flow-met.auto),
+      (
+        (flow-readable file loop.at end loop.invariant.1.0 view c.in-View.v c.in-View.is).rest,
+        flows-from c.items_from-next.ensures (flow-rest file _ loop.at end loop.invariant.0.0 r.within r.short loop.invariant.1.0 loop.invariant.1.1 c.in-View.v view c.in-View.is),
+      ),
+      visiting-many loop.invariant.2
+          (flows-next (flows-plain file _ loop.at end loop.invariant.0.0 r.within r.short loop.invariant.1.0 loop.invariant.1.1 c.in-View.v view c.in-View.is))
+          c.put_flow-met.ensures,
+    )

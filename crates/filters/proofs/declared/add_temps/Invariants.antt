@@ -1,0 +1,14 @@
+-- `add_temps`. The loop's invariant: what is left to be added are the temps from item number `i` on. Assumes nothing.
+use mathlib.Core.Path.{◌≡◌}
+use Prim.Native.Nat.{◌≤◌, ◌-◌}
+use lib.ListN.{length}
+use Rattle.records.specs.Items.{temp, code}
+use Rattle.filters.specs.Words.{sort_named}
+use Rattle.filters.proofs.Adding.{ItemsLeft}
+use Rattle.filters.proofs.declared.add_temps.Given as goal
+
+abbrev pub invariant-loop-i : goal.invariant-loop-i
+invariant-loop-i l = ((l.i ≤ length l.items) × (length l.filter ≡ length l.initial.filter)) × ItemsLeft (sort_named (code temp)) l.initial.filter l.file l.items l.filter l.i
+
+abbrev pub decreases-loop-i : goal.decreases-loop-i
+decreases-loop-i l = length l.items - l.i

@@ -1,0 +1,21 @@
+-- `steps::context::validate_first_steps` meets its contract. Assumes nothing.
+use native.Mathlib.Omega.{arith}
+use Rattle.items.specs.Bodies.{kept_flow}
+use Rattle.steps.specs.Heard.{heard}
+use Rattle.steps.proofs.Knots.{knot-heading, knot-params, knot-scope-is, knot-flow-is, first-told}
+use Rattle.steps.proofs.context.validate_first_steps.Goals as goal
+
+pub validate_function_purity-purity-requires : goal.validate_function_purity-purity-requires
+validate_function_purity-purity-requires c = knot-heading c.requires _ _ _
+
+pub validate_flow_parameter_names-requires : goal.validate_flow_parameter_names-requires
+validate_flow_parameter_names-requires c = record { heading_ready = knot-heading c.requires _ _ _; params_in_bounds = knot-params c.requires }
+
+pub shape_of-body : goal.shape_of-body
+shape_of-body c = omega (arith, c.body-1.given, c.list-1.given, c.list-2-1.given)
+
+pub shape_of-list : goal.shape_of-list
+shape_of-list c = omega (arith, c.body-1.given, c.list-1.given, c.list-2-1.given)
+
+pub returns : goal.returns
+returns c = first-told c.requires (heard c.args.k.tally c.args.list.now) (c.validate_function_purity-purity.ensures.list_after _ (kept_flow c.args.file.now c.args.kept.now c.args.k.flow) (knot-scope-is c.requires) (knot-flow-is c.requires c.args.k.tally)) (c.validate_flow_parameter_names.ensures _ (knot-scope-is c.requires))
