@@ -1,6 +1,8 @@
 // Builds stories at the limits in a buffer, checks each, and writes its line and its number of entries.
 #![tactic(auto)]
+
 use lines::check_line;
+use std::io;
 use validator::Answer;
 
 // The name of the knot, and one that no story here has.
@@ -14,34 +16,41 @@ const MESSAGE: usize = 640;
 const NUMBERS: usize = 1259940;
 
 // Writes a number of entries.
-fn print_count(n: usize) {
-    io::write_all(1, b"entries ");
-    io::print_decimal(1, n as u64);
-    io::write_all(1, b"\n");
+fn print_count(rt: &impl Print, n: usize) -> io::Result<()> {
+    rt.write_all(b"entries ")?;
+    rt.print(n as u64)?;
+    rt.write_all(b"\n")
 }
 
 // Writes the number of entries of an answer; a refusal has none.
-fn print_entries(answer: Answer) {
+fn print_entries(rt: &impl Print, answer: Answer) -> io::Result<()> {
     match answer {
-        Answer::Accepted(n) => print_count(n),
-        Answer::Breached(b) => print_count(b.entries),
-        Answer::Unreadable(_) => {}
-        Answer::ShortIndex => {}
-        Answer::ShortMessage => {}
+        Answer::Accepted(n) => print_count(rt, n),
+        Answer::Breached(b) => print_count(rt, b.entries),
+        Answer::Unreadable(_) => Ok(()),
+        Answer::ShortIndex => Ok(()),
+        Answer::ShortMessage => Ok(()),
     }
 }
 
 // Checks a file, and writes its line and its number of entries.
-fn print_file(file: &[u8], index: &mut [u32], message: &mut [u8], out: &mut [u8]) {
+fn print_file(
+    rt: &impl Print,
+    file: &[u8],
+    index: &mut [u32],
+    message: &mut [u8],
+    out: &mut [u8],
+) -> io::Result<()> {
     let checked = check_line(file, index, message, out);
     let answer = checked.answer;
     let end = checked.length;
-    io::write_all(1, &out[..end]);
-    print_entries(answer);
+    rt.write_all(&out[..end])?;
+    print_entries(rt, answer)
 }
 
 // Checks so many bytes of a buffer with so many of the index and of the message buffer, where there are so many.
 fn print_lent(
+    rt: &impl Print,
     space: &[u8],
     size: usize,
     index: &mut [u32],
@@ -49,22 +58,23 @@ fn print_lent(
     message: &mut [u8],
     bytes: usize,
     out: &mut [u8],
-) {
+) -> io::Result<()> {
     if space.len() < size {
-        return;
+        return Ok(());
     }
     if index.len() < numbers {
-        return;
+        return Ok(());
     }
     if message.len() < bytes {
-        return;
+        return Ok(());
     }
     print_file(
+        rt,
         &space[0..size],
         &mut index[0..numbers],
         &mut message[0..bytes],
         out,
-    );
+    )
 }
 
 // Puts a byte at a place, where it is there, and answers the place after it.
@@ -276,9 +286,17 @@ fn bytes_of(case: u8) -> usize {
 }
 
 // Builds the story of a case, checks it, and writes its line.
-fn print_case(case: u8, space: &mut [u8], index: &mut [u32], message: &mut [u8], out: &mut [u8]) {
+fn print_case(
+    rt: &impl Print,
+    case: u8,
+    space: &mut [u8],
+    index: &mut [u32],
+    message: &mut [u8],
+    out: &mut [u8],
+) -> io::Result<()> {
     let length = put_case(case, space);
     print_lent(
+        rt,
         space,
         length,
         index,
@@ -286,63 +304,80 @@ fn print_case(case: u8, space: &mut [u8], index: &mut [u32], message: &mut [u8],
         message,
         bytes_of(case),
         out,
-    );
+    )
 }
 
 // Writes the lines of the cases from `first` to before `end`.
 fn print_cases(
+    rt: &impl Print,
     first: u8,
     end: u8,
     space: &mut [u8],
     index: &mut [u32],
     message: &mut [u8],
     out: &mut [u8],
-) {
+) -> io::Result<()> {
     let mut case = first;
     while case < end {
-        print_case(case, space, index, message, out);
+        print_case(rt, case, space, index, message, out)?;
         case += 1;
     }
+    Ok(())
 }
 
 // Lends two arrays on.
 fn lend(
+    rt: &impl Print,
     first: u8,
     end: u8,
     space: &mut [u8; 420000],
     index: &mut [u32; NUMBERS],
     message: &mut [u8],
     out: &mut [u8],
-) {
-    print_cases(first, end, space, index, message, out);
+) -> io::Result<()> {
+    print_cases(rt, first, end, space, index, message, out)
 }
 
 // Lends the buffers for files of at most 420,000 bytes.
-fn run_stories(first: u8, end: u8) {
+fn run_stories(rt: &impl Print, first: u8, end: u8) -> io::Result<()> {
     let mut space = [0u8; 420000];
     let mut index = [0u32; NUMBERS];
     let mut message = [0u8; MESSAGE];
     let mut out = [0u8; 700];
-    lend(first, end, &mut space, &mut index, &mut message, &mut out);
+    lend(
+        rt,
+        first,
+        end,
+        &mut space,
+        &mut index,
+        &mut message,
+        &mut out,
+    )
 }
 
 // Lends an array on as its bytes.
-fn lend_long(space: &mut [u8; 1048577], index: &mut [u32], message: &mut [u8], out: &mut [u8]) {
-    print_cases(9, 12, space, index, message, out);
+fn lend_long(
+    rt: &impl Print,
+    space: &mut [u8; 1048577],
+    index: &mut [u32],
+    message: &mut [u8],
+    out: &mut [u8],
+) -> io::Result<()> {
+    print_cases(rt, 9, 12, space, index, message, out)
 }
 
 // Lends the buffers for the longest files.
-fn run_long() {
+fn run_long(rt: &impl Print) -> io::Result<()> {
     let mut space = [0u8; 1048577];
     let mut index = [0u32; 1];
     let mut message = [0u8; MESSAGE];
     let mut out = [0u8; 700];
-    lend_long(&mut space, &mut index, &mut message, &mut out);
+    lend_long(rt, &mut space, &mut index, &mut message, &mut out)
 }
 
 // Writes the lines of all cases. The longest files and the longest index are not on the stack at one time.
-fn main() {
-    run_stories(0, 9);
-    run_long();
-    run_stories(12, 16);
+fn main(rt: HostRuntime) -> io::Result<()> {
+    run_stories(&rt, 0, 9)?;
+    run_long(&rt)?;
+    run_stories(&rt, 12, 16)
 }

@@ -1,8 +1,11 @@
 // Replays checks from standard input, and writes for each its line, its entries, names and index, and whether the rest of the buffers stays.
 // A check is three numbers of two bytes (numbers of the index, bytes of the message buffer, bytes of the file) and the file.
 #![tactic(auto)]
+
 use fields::word;
+use host::read_full;
 use lines::check_line;
+use std::io;
 use validator::Answer;
 
 // The number for none.
@@ -19,30 +22,29 @@ fn wide(n: u32) -> usize {
 }
 
 // Writes a space and a number, or a dash for none.
-fn print_number(n: usize) {
+fn print_number(rt: &impl Print, n: usize) -> io::Result<()> {
     if n == NONE {
-        io::write_all(1, b" -");
-        return;
+        return rt.write_all(b" -");
     }
-    io::write_all(1, b" ");
-    io::print_decimal(1, n as u64);
+    rt.write_all(b" ")?;
+    rt.print(n as u64)
 }
 
 // Writes the numbers of the entries.
-fn print_index(index: &[u32], entries: usize) {
+fn print_index(rt: &impl Print, index: &[u32], entries: usize) -> io::Result<()> {
     if entries == 0 {
-        return;
+        return Ok(());
     }
-    io::write_all(1, b"index");
+    rt.write_all(b"index")?;
     let mut i = 0;
     while i < index.len() {
         if entries <= i / 3 {
             break;
         }
-        print_number(wide(index[i]));
+        print_number(rt, wide(index[i]))?;
         i += 1;
     }
-    io::write_all(1, b"\n");
+    rt.write_all(b"\n")
 }
 
 // Puts the blank number everywhere.
@@ -92,79 +94,104 @@ fn bytes_kept(message: &[u8], from: usize) -> bool {
 }
 
 // Writes whether both buffers stay behind so many entries and so many bytes.
-fn print_kept(entries: usize, size: usize, index: &[u32], message: &[u8]) {
+fn print_kept(
+    rt: &impl Print,
+    entries: usize,
+    size: usize,
+    index: &[u32],
+    message: &[u8],
+) -> io::Result<()> {
     if numbers_kept(index, entries) {
         if bytes_kept(message, size) {
-            io::write_all(1, b"rest kept\n\n");
-            return;
+            return rt.write_all(b"rest kept\n\n");
         }
     }
-    io::write_all(1, b"rest changed\n\n");
+    rt.write_all(b"rest changed\n\n")
 }
 
 // Writes the numbers of a result that is no refusal, and whether the rest of the buffers stays.
 fn print_result(
+    rt: &impl Print,
     entries: usize,
     first: usize,
     second: usize,
     size: usize,
     index: &[u32],
     message: &[u8],
-) {
-    io::write_all(1, b"entries");
-    print_number(entries);
-    io::write_all(1, b"\nnames");
-    print_number(first);
-    print_number(second);
-    io::write_all(1, b"\n");
-    print_index(index, entries);
-    print_kept(entries, size, index, message);
+) -> io::Result<()> {
+    rt.write_all(b"entries")?;
+    print_number(rt, entries)?;
+    rt.write_all(b"\nnames")?;
+    print_number(rt, first)?;
+    print_number(rt, second)?;
+    rt.write_all(b"\n")?;
+    print_index(rt, index, entries)?;
+    print_kept(rt, entries, size, index, message)
 }
 
 // Writes what an answer tells beside its line; a refusal has no numbers.
-fn print_answer(answer: Answer, index: &[u32], message: &[u8]) {
+fn print_answer(rt: &impl Print, answer: Answer, index: &[u32], message: &[u8]) -> io::Result<()> {
     match answer {
-        Answer::Accepted(n) => print_result(n, NONE, NONE, 0, index, message),
+        Answer::Accepted(n) => print_result(rt, n, NONE, NONE, 0, index, message),
         Answer::Breached(b) => {
-            print_result(b.entries, b.first, b.second, b.message, index, message)
+            print_result(rt, b.entries, b.first, b.second, b.message, index, message)
         }
-        Answer::Unreadable(_) => print_kept(0, 0, index, message),
-        Answer::ShortIndex => print_kept(0, 0, index, message),
-        Answer::ShortMessage => print_kept(0, 0, index, message),
+        Answer::Unreadable(_) => print_kept(rt, 0, 0, index, message),
+        Answer::ShortIndex => print_kept(rt, 0, 0, index, message),
+        Answer::ShortMessage => print_kept(rt, 0, 0, index, message),
     }
 }
 
 // Checks a file with blank buffers, and writes all that the check gives.
-fn replay(file: &[u8], index: &mut [u32], message: &mut [u8], out: &mut [u8]) {
+fn replay(
+    rt: &impl Print,
+    file: &[u8],
+    index: &mut [u32],
+    message: &mut [u8],
+    out: &mut [u8],
+) -> io::Result<()> {
     blank_numbers(index);
     blank_bytes(message);
     let checked = check_line(file, index, message, out);
     let answer = checked.answer;
     let end = checked.length;
-    io::write_all(1, &out[..end]);
-    print_answer(answer, index, message);
+    rt.write_all(&out[..end])?;
+    print_answer(rt, answer, index, message)
 }
 
 // Replays a check with buffers of these lengths, where the lent ones are as long.
 fn replay_lent(
+    rt: &impl Print,
     file: &[u8],
     numbers: usize,
     bytes: usize,
     index: &mut [u32],
     message: &mut [u8],
     out: &mut [u8],
-) {
+) -> io::Result<()> {
     if index.len() < numbers {
-        return;
+        return Ok(());
     }
     if message.len() < bytes {
-        return;
+        return Ok(());
     }
-    replay(file, &mut index[0..numbers], &mut message[0..bytes], out);
+    replay(
+        rt,
+        file,
+        &mut index[0..numbers],
+        &mut message[0..bytes],
+        out,
+    )
 }
 
 // Replays the checks in s, up to one that is cut short.
-fn replay_all(s: &[u8], index: &mut [u32], message: &mut [u8], out: &mut [u8]) {
+fn replay_all(
+    rt: &impl Print,
+    s: &[u8],
+    index: &mut [u32],
+    message: &mut [u8],
+    out: &mut [u8],
+) -> io::Result<()> {
     let mut at: usize = 0;
     while at < s.len() {
         if s.len() - at < 6 {
@@ -178,21 +205,28 @@ fn replay_all(s: &[u8], index: &mut [u32], message: &mut [u8], out: &mut [u8]) {
         }
         let start = at + 6;
         at = start + n;
-        replay_lent(&s[start..at], numbers, bytes, index, message, out);
+        replay_lent(rt, &s[start..at], numbers, bytes, index, message, out)?;
     }
+    Ok(())
 }
 
 // Replays what is on standard input.
-fn replay_input(space: &mut [u8], index: &mut [u32], message: &mut [u8], out: &mut [u8]) {
-    let n = io::read_full(0, space);
-    replay_all(&space[..n], index, message, out);
+fn replay_input(
+    rt: &(impl Input + Print),
+    space: &mut [u8],
+    index: &mut [u32],
+    message: &mut [u8],
+    out: &mut [u8],
+) -> io::Result<()> {
+    let n = read_full(&mut rt.reader(), space)?;
+    replay_all(rt, &space[..n], index, message, out)
 }
 
 // Lends the buffers.
-fn main() {
+fn main(rt: HostRuntime) -> io::Result<()> {
     let mut space = [0u8; 131072];
     let mut index = [0u32; 12288];
     let mut message = [0u8; 704];
     let mut out = [0u8; 764];
-    replay_input(&mut space, &mut index, &mut message, &mut out);
+    replay_input(&rt, &mut space, &mut index, &mut message, &mut out)
 }
