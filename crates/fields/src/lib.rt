@@ -1,5 +1,6 @@
 // The fields of a story file: numbers, names, the heads of lists and records, and the kinds.
 #![tactic(auto)]
+
 ghost use Rattle.std.specs.Prelude.{◌≡◌};
 ghost use Rattle.fields.specs.Bytes.{le32, head_of, read_of_head, list_of, name_of, span_reach, flag_of};
 ghost use Rattle.fields.specs.Kinds.{expr_kind, cond_kind, node_kind, kind_of};
