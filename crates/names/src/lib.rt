@@ -1,5 +1,6 @@
 // Names as bytes: comparing them, taking one out of a file, and the words that the rules name.
 #![tactic(auto)]
+
 ghost use Rattle.std.specs.Prelude.{◌≡◌, ◌||◌, [], ◌∷◌};
 ghost use Rattle.names.specs.Words.{same, one_of};
 ghost use Rattle.names.specs.Reserved.{END, DONE, back, builtins};

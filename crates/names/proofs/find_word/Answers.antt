@@ -1,15 +1,13 @@
 -- `names::find_word` meets its contract. The invariants: what is left of the table, and the name and the word agree before `at`.
 -- The table is that of `builtins` by computation. Assumes nothing.
 use mathlib.Core.Path.{refl, sym}
-use mathlib.Core.Logic.{⊎_elim}
-use Prim.Native.Nat.{◌-◌}
 use native.Mathlib.Omega.{arith}
 use borrow.Author.Rules.{rules}
 use lib.ListN.{length-take, length-drop}
 use Rattle.names.specs.Reserved.{builtins}
 use Rattle.names.proofs.Reserved.{builtins-counted}
 use Rattle.names.proofs.Words.{agree-start, agree-end, agree-next, agree-stop, same-lengths}
-use Rattle.names.proofs.Search.{Front, left-start, left-none, left-front, front_fits, front-bound, front-found, front-next}
+use Rattle.names.proofs.Search.{left-start, left-none, left-front, front_fits, front-bound, front-found, front-next}
 use Rattle.names.proofs.find_word.Goals as goal
 use Rattle.names.proofs.find_word.Goals.{then-word-name+else-at-name+then-name-at, else-word-name}
 
@@ -60,7 +58,7 @@ pub words-preserved : goal.words-preserved
 words-preserved c =
     front-next (left-front c.words.invariant (omega arith) c.name_at-word.ensures)
     (elim c.if-word-name.branch [
-      then-word-name+else-at-name+then-name-at w ↦ agree-stop w.bytes.invariant.1 (omega arith) (omega arith) w.if-name-at.true
+      | then-word-name+else-at-name+then-name-at w ↦ agree-stop w.bytes.invariant.1 (omega arith) (omega arith) w.if-name-at.true
       | else-word-name w ↦ same-lengths c.args.name.now c.name_at-word.result.now (λ e. w.if-word-name.false (sym e))
     ])
 

@@ -1,6 +1,5 @@
 -- `names::same_name` meets its contract. The loop's invariant: the names agree before `i`. Assumes nothing.
 use mathlib.Core.Path.{sym}
-use Prim.Native.Nat.{◌-◌}
 use native.Mathlib.Omega.{arith}
 use borrow.Author.Rules.{rules}
 use Rattle.names.proofs.Words.{agree-start, agree-end, agree-next, agree-stop, same-lengths}
