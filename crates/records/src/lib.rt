@@ -1,5 +1,6 @@
 // The records of a list at every depth: how many they are, and a number for each that is not plain to the rules.
 #![tactic(auto)]
+
 ghost use Rattle.std.specs.Prelude.{◌+◌, ◌^◌, ◌<◌, length};
 ghost use Rattle.records.specs.Grammar.{nodes};
 ghost use Rattle.records.specs.Work.{run, st, keeping, Told};

@@ -76,13 +76,12 @@ pub assign-returns-in-0-to-3 : goal.assign-returns-in-0-to-3
 assign-returns-in-0-to-3 t c =
     let a = c.args in
     let if1 = c.if-s-lt1 in
-    let if2 = c.in-0-to-3.if-mode-lt4-own in
-    rw (moded-on keeping a.base (st a.out.now a.n) (named (exact 1 (record_of a.left Visited))) a.s.now (omega (arith, if1.false)) (omega (arith, if2.true))) c.set.ensures
+    rw (moded-on keeping a.base (st a.out.now a.n) (named (exact 1 (record_of a.left Visited))) a.s.now (omega (arith, if1.false)) (omega arith)) c.set.ensures
 
 pub assign-returns-in-4-to-255 : goal.assign-returns-in-4-to-255
 assign-returns-in-4-to-255 t c =
     let a = c.args in
-    moded-no keeping a.base (st a.out.now a.n) (named (exact 1 (record_of a.left Visited))) a.s.now (omega (arith, c.if-s-lt1.false)) (omega (arith, c.in-4-to-255.if-mode-lt4-own.false))
+    moded-no keeping a.base (st a.out.now a.n) (named (exact 1 (record_of a.left Visited))) a.s.now (omega (arith, c.if-s-lt1.false)) (omega arith)
 
 pub body-exact-requires : goal.body-exact-requires
 body-exact-requires t c = omega (arith, c.decreases, c.requires)
@@ -151,16 +150,30 @@ branch-slice_bounds-front_list-count t c = ((let fact : (1 ≤ c.in-To.e) × (c.
     test_fits keeping a.base (st a.out.now a.n) (record_of a.left) a.s.now c.test-tested.ensures c.in-To.e c.in-To.m c.in-To.is in fact)).1
 
 pub branch-slice_bounds-front_list-start : goal.branch-slice_bounds-front_list-start
-branch-slice_bounds-front_list-start t c = omega (arith, (let fact : (1 ≤ c.in-To.e) × (c.in-To.e ≤ length c.args.s.now) = let a = c.args in
-    test_fits keeping a.base (st a.out.now a.n) (record_of a.left) a.s.now c.test-tested.ensures c.in-To.e c.in-To.m c.in-To.is in fact))
+branch-slice_bounds-front_list-start t c = omega (
+  arith,
+  (let fact : (1 ≤ c.in-To.e) × (c.in-To.e ≤ length c.args.s.now) = let a = c.args in
+      test_fits keeping a.base (st a.out.now a.n) (record_of a.left) a.s.now c.test-tested.ensures c.in-To.e c.in-To.m c.in-To.is in fact),
+)
 
 pub branch-overflow_add-base : goal.branch-overflow_add-base
-branch-overflow_add-base t c = omega (arith, (let fact : (1 ≤ c.in-To.e) × (c.in-To.e ≤ length c.args.s.now) = let a = c.args in
-    test_fits keeping a.base (st a.out.now a.n) (record_of a.left) a.s.now c.test-tested.ensures c.in-To.e c.in-To.m c.in-To.is in fact), c.requires)
+branch-overflow_add-base t c = omega (
+  arith,
+  (let fact : (1 ≤ c.in-To.e) × (c.in-To.e ≤ length c.args.s.now) = let a = c.args in
+      test_fits keeping a.base (st a.out.now a.n) (record_of a.left) a.s.now c.test-tested.ensures c.in-To.e c.in-To.m c.in-To.is in fact),
+  c.requires,
+)
 
 pub branch-front_list-nodes-requires : goal.branch-front_list-nodes-requires
-branch-front_list-nodes-requires t c = omega (arith, (let fact : (1 ≤ c.in-To.e) × (c.in-To.e ≤ length c.args.s.now) = let a = c.args in
-    test_fits keeping a.base (st a.out.now a.n) (record_of a.left) a.s.now c.test-tested.ensures c.in-To.e c.in-To.m c.in-To.is in fact), length-take {A = ℕ}, length-drop {A = ℕ}, c.decreases, c.requires)
+branch-front_list-nodes-requires t c = omega (
+  arith,
+  (let fact : (1 ≤ c.in-To.e) × (c.in-To.e ≤ length c.args.s.now) = let a = c.args in
+      test_fits keeping a.base (st a.out.now a.n) (record_of a.left) a.s.now c.test-tested.ensures c.in-To.e c.in-To.m c.in-To.is in fact),
+  length-take {A = ℕ},
+  length-drop {A = ℕ},
+  c.decreases,
+  c.requires,
+)
 
 pub branch-returns-in_default-nodes : goal.branch-returns-in_default-nodes
 branch-returns-in_default-nodes t c =
@@ -173,8 +186,15 @@ branch-overflow_add-result t c =
     let e = c.in-To.e in
     let rest = take (length a.s.now - e) (drop e a.s.now) in
     let inside = listed-fits keeping (a.base + e) (st c.test-tested.new.out c.in-To.m) (record_of a.left Branch) rest c.front_list-nodes.ensures c.in-To-nodes.d c.in-To-nodes.q c.in-To-nodes.is in
-    omega (arith, (let fact : (1 ≤ c.in-To.e) × (c.in-To.e ≤ length c.args.s.now) = let a = c.args in
-    test_fits keeping a.base (st a.out.now a.n) (record_of a.left) a.s.now c.test-tested.ensures c.in-To.e c.in-To.m c.in-To.is in fact), inside, length-take (length a.s.now - e) (drop e a.s.now), length-drop e a.s.now, c.requires)
+    omega (
+      arith,
+      (let fact : (1 ≤ c.in-To.e) × (c.in-To.e ≤ length c.args.s.now) = let a = c.args in
+          test_fits keeping a.base (st a.out.now a.n) (record_of a.left) a.s.now c.test-tested.ensures c.in-To.e c.in-To.m c.in-To.is in fact),
+      inside,
+      length-take (length a.s.now - e) (drop e a.s.now),
+      length-drop e a.s.now,
+      c.requires,
+    )
 
 pub branch-returns : goal.branch-returns
 branch-returns t c =
@@ -195,10 +215,15 @@ branches-returns-in_Refused-piece t c =
     rw (l.invariant.1, repeat-step (branch (record_of a.left)) (branch-local (record_of a.left)) l.t.now c.loop-t-test.true) (branch-else keeping l.at (st l.out l.count) (record_of a.left) l.t.now piece.ensures (repeat (branch (record_of a.left))) c.in_Refused-piece.r c.in_Refused-piece.is)
 
 pub branches-overflow_add-at : goal.branches-overflow_add-at
-branches-overflow_add-at t c = omega (arith, (let fact : (1 ≤ c.in_To-piece.e) × (c.in_To-piece.e ≤ length c.loop-t.t.now) = let a = c.args in
-    let l = c.loop-t in
-    let piece = c.branch-piece in
-    branch_fits keeping l.at (st l.out l.count) (record_of a.left) l.t.now piece.ensures c.in_To-piece.e c.in_To-piece.m c.in_To-piece.is in fact), c.loop-t.invariant.0, c.requires)
+branches-overflow_add-at t c = omega (
+  arith,
+  (let fact : (1 ≤ c.in_To-piece.e) × (c.in_To-piece.e ≤ length c.loop-t.t.now) = let a = c.args in
+      let l = c.loop-t in
+      let piece = c.branch-piece in
+      branch_fits keeping l.at (st l.out l.count) (record_of a.left) l.t.now piece.ensures c.in_To-piece.e c.in_To-piece.m c.in_To-piece.is in fact),
+  c.loop-t.invariant.0,
+  c.requires,
+)
 
 pub branches-slice_bounds-t-count : goal.branches-slice_bounds-t-count
 branches-slice_bounds-t-count t c = ((let fact : (1 ≤ c.in_To-piece.e) × (c.in_To-piece.e ≤ length c.loop-t.t.now) = let a = c.args in
@@ -207,27 +232,41 @@ branches-slice_bounds-t-count t c = ((let fact : (1 ≤ c.in_To-piece.e) × (c.i
     branch_fits keeping l.at (st l.out l.count) (record_of a.left) l.t.now piece.ensures c.in_To-piece.e c.in_To-piece.m c.in_To-piece.is in fact)).1
 
 pub branches-slice_bounds-t-start : goal.branches-slice_bounds-t-start
-branches-slice_bounds-t-start t c = omega (arith, (let fact : (1 ≤ c.in_To-piece.e) × (c.in_To-piece.e ≤ length c.loop-t.t.now) = let a = c.args in
-    let l = c.loop-t in
-    let piece = c.branch-piece in
-    branch_fits keeping l.at (st l.out l.count) (record_of a.left) l.t.now piece.ensures c.in_To-piece.e c.in_To-piece.m c.in_To-piece.is in fact))
+branches-slice_bounds-t-start t c = omega (
+  arith,
+  (let fact : (1 ≤ c.in_To-piece.e) × (c.in_To-piece.e ≤ length c.loop-t.t.now) = let a = c.args in
+      let l = c.loop-t in
+      let piece = c.branch-piece in
+      branch_fits keeping l.at (st l.out l.count) (record_of a.left) l.t.now piece.ensures c.in_To-piece.e c.in_To-piece.m c.in_To-piece.is in fact),
+)
 
 pub branches-loop-t-smaller : goal.branches-loop-t-smaller
-branches-loop-t-smaller t c = omega (arith, (let fact : (1 ≤ c.in_To-piece.e) × (c.in_To-piece.e ≤ length c.loop-t.t.now) = let a = c.args in
-    let l = c.loop-t in
-    let piece = c.branch-piece in
-    branch_fits keeping l.at (st l.out l.count) (record_of a.left) l.t.now piece.ensures c.in_To-piece.e c.in_To-piece.m c.in_To-piece.is in fact), length-take {A = ℕ}, length-drop {A = ℕ})
+branches-loop-t-smaller t c = omega (
+  arith,
+  (let fact : (1 ≤ c.in_To-piece.e) × (c.in_To-piece.e ≤ length c.loop-t.t.now) = let a = c.args in
+      let l = c.loop-t in
+      let piece = c.branch-piece in
+      branch_fits keeping l.at (st l.out l.count) (record_of a.left) l.t.now piece.ensures c.in_To-piece.e c.in_To-piece.m c.in_To-piece.is in fact),
+  length-take {A = ℕ},
+  length-drop {A = ℕ},
+)
 
 pub branches-loop-t-preserved : goal.branches-loop-t-preserved
 branches-loop-t-preserved t c =
     let a = c.args in
     let l = c.loop-t in
-    let piece = c.branch-piece in
-    (
-      omega (arith, (let fact : (1 ≤ c.in_To-piece.e) × (c.in_To-piece.e ≤ length c.loop-t.t.now) = let a = c.args in
-    let l = c.loop-t in
-    let piece = c.branch-piece in
-    branch_fits keeping l.at (st l.out l.count) (record_of a.left) l.t.now piece.ensures c.in_To-piece.e c.in_To-piece.m c.in_To-piece.is in fact), length-take {A = ℕ}, length-drop {A = ℕ}, l.invariant.0, piece.auto),
+    let piece = c.branch-piece in (
+      omega (
+        arith,
+        (let fact : (1 ≤ c.in_To-piece.e) × (c.in_To-piece.e ≤ length c.loop-t.t.now) = let a = c.args in
+            let l = c.loop-t in
+            let piece = c.branch-piece in
+            branch_fits keeping l.at (st l.out l.count) (record_of a.left) l.t.now piece.ensures c.in_To-piece.e c.in_To-piece.m c.in_To-piece.is in fact),
+        length-take {A = ℕ},
+        length-drop {A = ℕ},
+        l.invariant.0,
+        piece.auto,
+      ),
       l.invariant.1 ∙ rw (repeat-step (branch (record_of a.left)) (branch-local (record_of a.left)) l.t.now c.loop-t-test.true) (branch-on keeping l.at (st l.out l.count) (record_of a.left) l.t.now piece.ensures (repeat (branch (record_of a.left))) c.in_To-piece.e c.in_To-piece.m c.in_To-piece.is),
     )
 
@@ -332,17 +371,31 @@ conditional-slice_bounds-arms-count t c = ((let fact : (5 ≤ c.in-To.e) × (c.i
     first_fits keeping a.base (st a.out.now a.n) (record_of a.left Cond) a.s.now c.first-piece.ensures c.in-To.e c.in-To.m c.in-To.is in fact)).1
 
 pub conditional-slice_bounds-arms-start : goal.conditional-slice_bounds-arms-start
-conditional-slice_bounds-arms-start t c = omega (arith, (let fact : (5 ≤ c.in-To.e) × (c.in-To.e ≤ length c.args.s.now) = let a = c.args in
-    first_fits keeping a.base (st a.out.now a.n) (record_of a.left Cond) a.s.now c.first-piece.ensures c.in-To.e c.in-To.m c.in-To.is in fact))
+conditional-slice_bounds-arms-start t c = omega (
+  arith,
+  (let fact : (5 ≤ c.in-To.e) × (c.in-To.e ≤ length c.args.s.now) = let a = c.args in
+      first_fits keeping a.base (st a.out.now a.n) (record_of a.left Cond) a.s.now c.first-piece.ensures c.in-To.e c.in-To.m c.in-To.is in fact),
+)
 
 pub conditional-overflow_add-base : goal.conditional-overflow_add-base
-conditional-overflow_add-base t c = omega (arith, (let fact : (5 ≤ c.in-To.e) × (c.in-To.e ≤ length c.args.s.now) = let a = c.args in
-    first_fits keeping a.base (st a.out.now a.n) (record_of a.left Cond) a.s.now c.first-piece.ensures c.in-To.e c.in-To.m c.in-To.is in fact), c.requires)
+conditional-overflow_add-base t c = omega (
+  arith,
+  (let fact : (5 ≤ c.in-To.e) × (c.in-To.e ≤ length c.args.s.now) = let a = c.args in
+      first_fits keeping a.base (st a.out.now a.n) (record_of a.left Cond) a.s.now c.first-piece.ensures c.in-To.e c.in-To.m c.in-To.is in fact),
+  c.requires,
+)
 
 pub conditional-arms-requires : goal.conditional-arms-requires
 conditional-arms-requires t c =
-    omega (arith, (let fact : (5 ≤ c.in-To.e) × (c.in-To.e ≤ length c.args.s.now) = let a = c.args in
-    first_fits keeping a.base (st a.out.now a.n) (record_of a.left Cond) a.s.now c.first-piece.ensures c.in-To.e c.in-To.m c.in-To.is in fact), length-take {A = ℕ}, length-drop {A = ℕ}, c.decreases, c.requires)
+    omega (
+      arith,
+      (let fact : (5 ≤ c.in-To.e) × (c.in-To.e ≤ length c.args.s.now) = let a = c.args in
+          first_fits keeping a.base (st a.out.now a.n) (record_of a.left Cond) a.s.now c.first-piece.ensures c.in-To.e c.in-To.m c.in-To.is in fact),
+      length-take {A = ℕ},
+      length-drop {A = ℕ},
+      c.decreases,
+      c.requires,
+    )
 
 pub conditional-returns-in-Refused : goal.conditional-returns-in-Refused
 conditional-returns-in-Refused t c =
@@ -404,9 +457,14 @@ exact-returns-in-Refused t c =
     rw (l.invariant.1, exact-step l.more (record_of a.left a.role) l.t.now (λ e. omega (arith, c.loop-more-test.true))) (first_else keeping l.at (st l.out l.count) (record_of a.left a.role) l.t.now c.first-piece.ensures (exact (l.more - 1) (record_of a.left a.role)) c.in-Refused.r c.in-Refused.is)
 
 pub exact-overflow_add-at : goal.exact-overflow_add-at
-exact-overflow_add-at t c = omega (arith, (let fact : (5 ≤ c.in-To.e) × (c.in-To.e ≤ length c.loop-more.t.now) = let a = c.args in
-    let l = c.loop-more in
-    first_fits keeping l.at (st l.out l.count) (record_of a.left a.role) l.t.now c.first-piece.ensures c.in-To.e c.in-To.m c.in-To.is in fact), c.loop-more.invariant.0, c.requires)
+exact-overflow_add-at t c = omega (
+  arith,
+  (let fact : (5 ≤ c.in-To.e) × (c.in-To.e ≤ length c.loop-more.t.now) = let a = c.args in
+      let l = c.loop-more in
+      first_fits keeping l.at (st l.out l.count) (record_of a.left a.role) l.t.now c.first-piece.ensures c.in-To.e c.in-To.m c.in-To.is in fact),
+  c.loop-more.invariant.0,
+  c.requires,
+)
 
 pub exact-slice_bounds-t-count : goal.exact-slice_bounds-t-count
 exact-slice_bounds-t-count t c = ((let fact : (5 ≤ c.in-To.e) × (c.in-To.e ≤ length c.loop-more.t.now) = let a = c.args in
@@ -414,9 +472,12 @@ exact-slice_bounds-t-count t c = ((let fact : (5 ≤ c.in-To.e) × (c.in-To.e �
     first_fits keeping l.at (st l.out l.count) (record_of a.left a.role) l.t.now c.first-piece.ensures c.in-To.e c.in-To.m c.in-To.is in fact)).1
 
 pub exact-slice_bounds-t-start : goal.exact-slice_bounds-t-start
-exact-slice_bounds-t-start t c = omega (arith, (let fact : (5 ≤ c.in-To.e) × (c.in-To.e ≤ length c.loop-more.t.now) = let a = c.args in
-    let l = c.loop-more in
-    first_fits keeping l.at (st l.out l.count) (record_of a.left a.role) l.t.now c.first-piece.ensures c.in-To.e c.in-To.m c.in-To.is in fact))
+exact-slice_bounds-t-start t c = omega (
+  arith,
+  (let fact : (5 ≤ c.in-To.e) × (c.in-To.e ≤ length c.loop-more.t.now) = let a = c.args in
+      let l = c.loop-more in
+      first_fits keeping l.at (st l.out l.count) (record_of a.left a.role) l.t.now c.first-piece.ensures c.in-To.e c.in-To.m c.in-To.is in fact),
+)
 
 pub exact-overflow_sub-more : goal.exact-overflow_sub-more
 exact-overflow_sub-more t c = omega (arith, c.loop-more-test.true)
@@ -428,11 +489,17 @@ pub exact-loop-more-preserved : goal.exact-loop-more-preserved
 exact-loop-more-preserved t c =
     let a = c.args in
     let l = c.loop-more in
-    let piece = c.first-piece in
-    (
-      omega (arith, (let fact : (5 ≤ c.in-To.e) × (c.in-To.e ≤ length c.loop-more.t.now) = let a = c.args in
-    let l = c.loop-more in
-    first_fits keeping l.at (st l.out l.count) (record_of a.left a.role) l.t.now c.first-piece.ensures c.in-To.e c.in-To.m c.in-To.is in fact), length-take {A = ℕ}, length-drop {A = ℕ}, l.invariant.0, piece.auto),
+    let piece = c.first-piece in (
+      omega (
+        arith,
+        (let fact : (5 ≤ c.in-To.e) × (c.in-To.e ≤ length c.loop-more.t.now) = let a = c.args in
+            let l = c.loop-more in
+            first_fits keeping l.at (st l.out l.count) (record_of a.left a.role) l.t.now c.first-piece.ensures c.in-To.e c.in-To.m c.in-To.is in fact),
+        length-take {A = ℕ},
+        length-drop {A = ℕ},
+        l.invariant.0,
+        piece.auto,
+      ),
       l.invariant.1 ∙ rw (exact-step l.more (record_of a.left a.role) l.t.now (λ e. omega (arith, c.loop-more-test.true))) (first_on keeping l.at (st l.out l.count) (record_of a.left a.role) l.t.now piece.ensures (exact (l.more - 1) (record_of a.left a.role)) c.in-To.e c.in-To.m c.in-To.is),
     )
 
@@ -605,8 +672,7 @@ pub last_leaves-loop-t-preserved : goal.last_leaves-loop-t-preserved
 last_leaves-loop-t-preserved t c =
     let a = c.args in
     let l = c.loop-t in
-    let piece = c.record-w in
-    (
+    let piece = c.record-w in (
       omega (arith, (head-within c.loop-t.t.now c.in-To.kind c.in-To.e c.read_head-head.ensures c.in-To.is), length-take {A = ℕ}, length-drop {A = ℕ}, l.invariant.0, piece.auto),
       left-next l.invariant.1 c.read_head-head.ensures c.in-To.kind c.in-To.e c.in-To.is c.leaves_after-leaves.ensures,
       l.invariant.2 ∙ rw (repeat-step (front (record_of a.left Node)) (front-local (record_of a.left Node)) l.t.now c.loop-t-test.true)
@@ -689,8 +755,7 @@ pub list-loop-t-preserved : goal.list-loop-t-preserved
 list-loop-t-preserved t c =
     let a = c.args in
     let l = c.loop-t in
-    let piece = c.record-w in
-    (
+    let piece = c.record-w in (
       omega (arith, (head-within c.loop-t.t.now c.in-To.kind c.in-To.e c.read_head-head.ensures c.in-To.is), length-take {A = ℕ}, length-drop {A = ℕ}, l.invariant.0, piece.auto),
       l.invariant.1 ∙ rw (repeat-step (front (record_of a.left a.role)) (front-local (record_of a.left a.role)) l.t.now c.loop-t-test.true)
           (front-on keeping l.at (st l.out l.count) (record_of a.left a.role) (repeat (front (record_of a.left a.role))) l.t.now c.in-To.kind c.in-To.e c.in-Done.m c.read_head-head.ensures c.in-To.is piece.ensures c.in-Done.is),
@@ -749,8 +814,7 @@ pub lists-loop-t-preserved : goal.lists-loop-t-preserved
 lists-loop-t-preserved t c =
     let a = c.args in
     let l = c.loop-t in
-    let list = c.list-w in
-    (
+    let list = c.list-w in (
       omega (arith, (list-within c.loop-t.t.now c.in-To.e c.read_list-reach.ensures c.in-To.is), length-take {A = ℕ}, length-drop {A = ℕ}, l.invariant.0, list.auto),
       l.invariant.1 ∙ pieces-on keeping l.at (st l.out l.count) (records (record_of a.left Node)) l.t.now c.loop-t-test.true c.read_list-reach.ensures c.in-To.e c.in-To.is list.ensures c.in-Done.m c.in-Done.is,
     )
@@ -869,17 +933,31 @@ switch-slice_bounds-branches-count t c = ((let fact : (5 ≤ c.in-To.e) × (c.in
     first_fits keeping a.base (st a.out.now a.n) (record_of a.left Visited) a.s.now c.first-piece.ensures c.in-To.e c.in-To.m c.in-To.is in fact)).1
 
 pub switch-slice_bounds-branches-start : goal.switch-slice_bounds-branches-start
-switch-slice_bounds-branches-start t c = omega (arith, (let fact : (5 ≤ c.in-To.e) × (c.in-To.e ≤ length c.args.s.now) = let a = c.args in
-    first_fits keeping a.base (st a.out.now a.n) (record_of a.left Visited) a.s.now c.first-piece.ensures c.in-To.e c.in-To.m c.in-To.is in fact))
+switch-slice_bounds-branches-start t c = omega (
+  arith,
+  (let fact : (5 ≤ c.in-To.e) × (c.in-To.e ≤ length c.args.s.now) = let a = c.args in
+      first_fits keeping a.base (st a.out.now a.n) (record_of a.left Visited) a.s.now c.first-piece.ensures c.in-To.e c.in-To.m c.in-To.is in fact),
+)
 
 pub switch-overflow_add-base : goal.switch-overflow_add-base
-switch-overflow_add-base t c = omega (arith, (let fact : (5 ≤ c.in-To.e) × (c.in-To.e ≤ length c.args.s.now) = let a = c.args in
-    first_fits keeping a.base (st a.out.now a.n) (record_of a.left Visited) a.s.now c.first-piece.ensures c.in-To.e c.in-To.m c.in-To.is in fact), c.requires)
+switch-overflow_add-base t c = omega (
+  arith,
+  (let fact : (5 ≤ c.in-To.e) × (c.in-To.e ≤ length c.args.s.now) = let a = c.args in
+      first_fits keeping a.base (st a.out.now a.n) (record_of a.left Visited) a.s.now c.first-piece.ensures c.in-To.e c.in-To.m c.in-To.is in fact),
+  c.requires,
+)
 
 pub switch-branches-requires : goal.switch-branches-requires
 switch-branches-requires t c =
-    omega (arith, (let fact : (5 ≤ c.in-To.e) × (c.in-To.e ≤ length c.args.s.now) = let a = c.args in
-    first_fits keeping a.base (st a.out.now a.n) (record_of a.left Visited) a.s.now c.first-piece.ensures c.in-To.e c.in-To.m c.in-To.is in fact), length-take {A = ℕ}, length-drop {A = ℕ}, c.decreases, c.requires)
+    omega (
+      arith,
+      (let fact : (5 ≤ c.in-To.e) × (c.in-To.e ≤ length c.args.s.now) = let a = c.args in
+          first_fits keeping a.base (st a.out.now a.n) (record_of a.left Visited) a.s.now c.first-piece.ensures c.in-To.e c.in-To.m c.in-To.is in fact),
+      length-take {A = ℕ},
+      length-drop {A = ℕ},
+      c.decreases,
+      c.requires,
+    )
 
 pub switch-returns-in-Refused : goal.switch-returns-in-Refused
 switch-returns-in-Refused t c =

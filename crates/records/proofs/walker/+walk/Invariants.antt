@@ -1,5 +1,5 @@
 -- The walk: the measure of each function, and what each loop keeps. Assumes nothing.
-use Rattle.std.proofs.Common.{◌≤◌, length, ◌*◌, ◌+◌, ◌-◌, ◌≡◌}
+use Rattle.std.proofs.Common.{◌≤◌, length, ◌*◌, ◌+◌, ◌≡◌}
 use Rattle.records.specs.Grammar.{record_of, exact, repeat, branch, front, listed}
 use Rattle.records.specs.Work.{st, keeping, run}
 use Rattle.fields.specs.declared.Role.TheVariants.{Node}
