@@ -11,7 +11,7 @@ use Rattle.fields.specs.declared.Role.{Role}
 use Rattle.fields.specs.declared.Body.{Body}
 use Rattle.fields.specs.declared.Kinded.TheVariants.{Known}
 use Rattle.fields.specs.Kinds.{kind_of}
-use Rattle.records.specs.Trace.{Trace, done, refuse, emit, and_then, shift, Record, met, well, refused, ends}
+use Rattle.records.specs.Trace.{Trace, done, refuse, emit, and_then, shift, Record, met, well, ends}
 use Rattle.records.specs.Grammar.{body_of, record_of, nodes}
 use Rattle.story.proofs.Endings.{ends-then, ends-shift, first-well, second-well}
 use Rattle.story.proofs.Induction.{Each, each-then, each-shift, each-met, Kept, nodes-hold}

@@ -1,5 +1,6 @@
 // The story file: trailer and sections, the headings of flows and stitches, and the reading pass over a whole file.
 #![tactic(auto)]
+
 ghost use Rattle.std.specs.Prelude.{◌≡◌};
 ghost use Rattle.records.specs.Work.{run, st, keeping, Told};
 ghost use Rattle.records.specs.Buffers.{cleared};

@@ -56,8 +56,7 @@ loop-t-smaller c = omega (arith, (list-within c.loop-t.t.now c.in-To.e c.read_li
 pub loop-t-preserved : goal.loop-t-preserved
 loop-t-preserved c =
     let l = c.loop-t in
-    let inside = c.read_flow-w in
-    (
+    let inside = c.read_flow-w in (
       omega (arith, (list-within c.loop-t.t.now c.in-To.e c.read_list-reach.ensures c.in-To.is), length-take {A = ℕ}, length-drop {A = ℕ}, l.invariant.0, inside.auto),
       l.invariant.1 ∙ pieces-on keeping l.at (st l.out l.count) flow l.t.now c.loop-t-test.true c.read_list-reach.ensures c.in-To.e c.in-To.is inside.ensures c.in-Done.m c.in-Done.is,
     )

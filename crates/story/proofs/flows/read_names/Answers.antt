@@ -28,8 +28,7 @@ loop-t-smaller c = omega (arith, (name-within c.loop-t.t.now c.in-To.e c.read_na
 
 pub loop-t-preserved : goal.loop-t-preserved
 loop-t-preserved c =
-    let l = c.loop-t in
-    (
+    let l = c.loop-t in (
       omega (arith, (name-within c.loop-t.t.now c.in-To.e c.read_name-reach.ensures c.in-To.is), length-take {A = ℕ}, length-drop {A = ℕ}, l.invariant.0),
       l.invariant.1 ∙ rw (to_end c.in-To.e l.t.now) (names-to l.t.now c.in-To.e c.loop-t-test.true c.read_name-reach.ensures c.in-To.is),
     )

@@ -8,12 +8,18 @@ use Rattle.story.proofs.TitleWalks.{title-fits, titled-on, titled-else}
 use Rattle.story.proofs.flows.read_stitch.Goals as goal
 
 pub slice_bounds-at_end-count : goal.slice_bounds-at_end-count
-slice_bounds-at_end-count c = omega (arith, (let a = c.args in
-    title-fits keeping a.base (st a.out.now a.n) a.s.now c.read_title-piece.ensures c.in-To.end c.in-To.m c.in-To.is))
+slice_bounds-at_end-count c = omega (
+  arith,
+  (let a = c.args in
+      title-fits keeping a.base (st a.out.now a.n) a.s.now c.read_title-piece.ensures c.in-To.end c.in-To.m c.in-To.is),
+)
 
 pub slice_bounds-at_end-start : goal.slice_bounds-at_end-start
-slice_bounds-at_end-start c = omega (arith, (let a = c.args in
-    title-fits keeping a.base (st a.out.now a.n) a.s.now c.read_title-piece.ensures c.in-To.end c.in-To.m c.in-To.is))
+slice_bounds-at_end-start c = omega (
+  arith,
+  (let a = c.args in
+      title-fits keeping a.base (st a.out.now a.n) a.s.now c.read_title-piece.ensures c.in-To.end c.in-To.m c.in-To.is),
+)
 
 pub returns-in-Refused : goal.returns-in-Refused
 unfolding stitch

@@ -11,16 +11,29 @@ slice_bounds-read_stitches-count c = ((let a = c.args in
     title-fits keeping a.base (st a.out.now a.n) a.s.now c.read_title-piece.ensures c.in-To.end c.in-To.m c.in-To.is)).1
 
 pub slice_bounds-read_stitches-start : goal.slice_bounds-read_stitches-start
-slice_bounds-read_stitches-start c = omega (arith, (let a = c.args in
-    title-fits keeping a.base (st a.out.now a.n) a.s.now c.read_title-piece.ensures c.in-To.end c.in-To.m c.in-To.is))
+slice_bounds-read_stitches-start c = omega (
+  arith,
+  (let a = c.args in
+      title-fits keeping a.base (st a.out.now a.n) a.s.now c.read_title-piece.ensures c.in-To.end c.in-To.m c.in-To.is),
+)
 
 pub overflow_add-base : goal.overflow_add-base
-overflow_add-base c = omega (arith, (let a = c.args in
-    title-fits keeping a.base (st a.out.now a.n) a.s.now c.read_title-piece.ensures c.in-To.end c.in-To.m c.in-To.is), c.requires)
+overflow_add-base c = omega (
+  arith,
+  (let a = c.args in
+      title-fits keeping a.base (st a.out.now a.n) a.s.now c.read_title-piece.ensures c.in-To.end c.in-To.m c.in-To.is),
+  c.requires,
+)
 
 pub read_stitches-requires : goal.read_stitches-requires
-read_stitches-requires c = omega (arith, (let a = c.args in
-    title-fits keeping a.base (st a.out.now a.n) a.s.now c.read_title-piece.ensures c.in-To.end c.in-To.m c.in-To.is), length-take {A = ℕ}, length-drop {A = ℕ}, c.requires)
+read_stitches-requires c = omega (
+  arith,
+  (let a = c.args in
+      title-fits keeping a.base (st a.out.now a.n) a.s.now c.read_title-piece.ensures c.in-To.end c.in-To.m c.in-To.is),
+  length-take {A = ℕ},
+  length-drop {A = ℕ},
+  c.requires,
+)
 
 pub returns-in-Refused : goal.returns-in-Refused
 returns-in-Refused c =
