@@ -1,5 +1,6 @@
 // Searches for names in the sections of a story file.
 #![tactic(auto)]
+
 ghost use Rattle.std.specs.Prelude.{◌≡◌};
 ghost use Rattle.names.specs.Words.{one_of, any};
 ghost use Rattle.story.specs.Story.{words};

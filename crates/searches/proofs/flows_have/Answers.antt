@@ -46,8 +46,7 @@ loop-e-smaller c = simp (length-take, length-drop) (omega (arith, (list-within c
 pub loop-e-preserved : goal.loop-e-preserved
 loop-e-preserved c =
     let a = c.args in
-    let l = c.loop-e in
-    (
+    let l = c.loop-e in (
       simp (length-take, length-drop) (omega (arith, (list-within c.loop-e.t.now c.in-To.e c.read_list.ensures c.in-To.is), l.invariant.0)),
       l.invariant.1 ∙ flow-passed a.function a.name.now l.t.now c.in-To.e c.read_list.ensures c.in-To.is c.is_called.ensures c.if-is_called.false,
     )

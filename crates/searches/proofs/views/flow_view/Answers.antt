@@ -17,16 +17,26 @@ returns-then-e-eq4 c =
     rw (flow-view-at a.file.now a.at a.end c.read_list.ensures c.in-To.e c.in-To.is, ← title-none a.file.now (a.at + 5) (a.at + c.in-To.e) (omega (arith, c.if-e-eq4.true)))
 
 pub overflow_add-at : goal.overflow_add-at
-overflow_add-at c = omega (arith, (let a = c.args in
-    piece-within a.file.now a.at a.end c.read_list.ensures c.in-To.e c.in-To.is))
+overflow_add-at c = omega (
+  arith,
+  (let a = c.args in
+      piece-within a.file.now a.at a.end c.read_list.ensures c.in-To.e c.in-To.is),
+)
 
 pub overflow_add-at-2 : goal.overflow_add-at-2
-overflow_add-at-2 c = omega (arith, (let a = c.args in
-    piece-within a.file.now a.at a.end c.read_list.ensures c.in-To.e c.in-To.is))
+overflow_add-at-2 c = omega (
+  arith,
+  (let a = c.args in
+      piece-within a.file.now a.at a.end c.read_list.ensures c.in-To.e c.in-To.is),
+)
 
 pub title_view-requires : goal.title_view-requires
-title_view-requires c = omega (arith, (let a = c.args in
-    piece-within a.file.now a.at a.end c.read_list.ensures c.in-To.e c.in-To.is), c.if-e-eq4.false)
+title_view-requires c = omega (
+  arith,
+  (let a = c.args in
+      piece-within a.file.now a.at a.end c.read_list.ensures c.in-To.e c.in-To.is),
+  c.if-e-eq4.false,
+)
 
 pub returns-in_default-title_view : goal.returns-in_default-title_view
 unfolding flagged_view
@@ -35,8 +45,12 @@ returns-in_default-title_view c =
     rw (flow-view-at a.file.now a.at a.end c.read_list.ensures c.in-To.e c.in-To.is, ← c.title_view.ensures, c.in_default-title_view.is)
 
 pub bounds-file-at : goal.bounds-file-at
-bounds-file-at c = omega (arith, (let a = c.args in
-    piece-within a.file.now a.at a.end c.read_list.ensures c.in-To.e c.in-To.is), c.if-e-eq4.false)
+bounds-file-at c = omega (
+  arith,
+  (let a = c.args in
+      piece-within a.file.now a.at a.end c.read_list.ensures c.in-To.e c.in-To.is),
+  c.if-e-eq4.false,
+)
 
 pub returns : goal.returns
 unfolding flagged_view

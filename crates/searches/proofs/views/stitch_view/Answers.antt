@@ -9,16 +9,25 @@ returns-in_default c =
     stitch-view-none a.file.now a.at a.end c.read_list.ensures c.in_default.field-0 c.in_default.is
 
 pub overflow_add-at : goal.overflow_add-at
-overflow_add-at c = omega (arith, (let a = c.args in
-    piece-within a.file.now a.at a.end c.read_list.ensures c.in-To.e c.in-To.is))
+overflow_add-at c = omega (
+  arith,
+  (let a = c.args in
+      piece-within a.file.now a.at a.end c.read_list.ensures c.in-To.e c.in-To.is),
+)
 
 pub overflow_add-at-2 : goal.overflow_add-at-2
-overflow_add-at-2 c = omega (arith, (let a = c.args in
-    piece-within a.file.now a.at a.end c.read_list.ensures c.in-To.e c.in-To.is))
+overflow_add-at-2 c = omega (
+  arith,
+  (let a = c.args in
+      piece-within a.file.now a.at a.end c.read_list.ensures c.in-To.e c.in-To.is),
+)
 
 pub title_view-requires : goal.title_view-requires
-title_view-requires c = omega (arith, (let a = c.args in
-    piece-within a.file.now a.at a.end c.read_list.ensures c.in-To.e c.in-To.is))
+title_view-requires c = omega (
+  arith,
+  (let a = c.args in
+      piece-within a.file.now a.at a.end c.read_list.ensures c.in-To.e c.in-To.is),
+)
 
 pub returns : goal.returns
 returns c =
