@@ -1,6 +1,5 @@
 -- `found_in`. The loop's invariant: no item before `i` passes. Assumes nothing.
 use mathlib.Core.Path.{sym}
-use Prim.Native.Nat.{◌-◌}
 use native.Mathlib.Omega.{arith}
 use Rattle.items.specs.Search.{found_among}
 use Rattle.items.proofs.Numbered.{items-length, item-there}

@@ -1,5 +1,4 @@
 -- `items::runs::count_before` meets its contract. The invariant: the count is from low to high. Assumes nothing.
-use Prim.Native.Nat.{◌-◌}
 use native.Mathlib.Omega.{arith}
 use Rattle.items.proofs.RisingPlaces.{number_fits, reach-beyond, reach-upto}
 use Rattle.items.proofs.runs.count_before.Goals as goal
