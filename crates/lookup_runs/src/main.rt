@@ -1,6 +1,7 @@
 // Looks targets up in stories that it builds, then in those of the lookup blocks of differential/vectors.txt, which it reads from standard input.
 // Writes a line for each: target, answer, entry, the index as it was lent, entry count, and whether the rest of the index stays.
 #![tactic(auto)]
+
 mod listed;
 mod shown;
 mod stories;

@@ -2,6 +2,7 @@
 // The first is with 512 numbers lent, the second with 3; SUM is over all of them, also those that reading leaves alone; after a refusal each is 0.
 // Then does the same for the limits on a file's length and for the last place of a record, in files that it builds in a buffer.
 #![tactic(auto)]
+
 ghost use Rattle.std.specs.Prelude.{◌≤◌};
 
 use fields::{Refusal, refusal_number, word};
