@@ -10,7 +10,7 @@ use Rattle.fields.specs.Bytes.{pick}
 use Rattle.names.specs.Words.{same, any}
 use Rattle.names.specs.Reserved.{END, DONE}
 use Rattle.names.specs.Targets.{passes}
-use Rattle.records.specs.Items.{temp, divert, variable, argument, call, choice, gather, parameter, stitchName, flowStart, code, What, is}
+use Rattle.records.specs.Items.{temp, divert, variable, argument, call, choice, gather, parameter, stitch_name, flow_start, code, What, is}
 use Rattle.story.specs.Story.{Name, Story}
 use Rattle.rules.specs.declared.Rule.TheVariants.{FunctionDivertedTo, TargetNotFound, FlowCalled, NameIsFunction, TempIsParameter, TempIsLabel, ParameterUnmarked, ParameterAlreadyMarked, GatherRepeated, ChoiceUndiverted, FunctionWithStitches, FunctionWithChoice, FunctionWithDivert, VariableForbidden}
 use Rattle.rules.specs.Rules.{Known, Here, target, call_passes, broken, here, root}
@@ -88,7 +88,7 @@ apart n = by-test (eqb 7 n) refl
     by-test true e = let at : 7 ≡ n = eqb→eq 7 n (rw e tt) in rw (← at)
     by-test false e = and-false (eqb 2 n || eqb 3 n || eqb 4 n)
 
--- 3. At a record of a body: its kind is none of parameter, stitchName and flowStart
+-- 3. At a record of a body: its kind is none of parameter, stitch_name and flow_start
 
 module _ (k : Known) (h : Here) (before : List What) (w : What) where
   pub targets-judged : judged_by k h targets before w ≡ pick (target w) (target_judged k w.name) Fine
@@ -115,7 +115,7 @@ module _ (k : Known) (h : Here) (before : List What) (w : What) where
       (pick (is divert w) (pick (same END w.name || same DONE w.name) Fine (Broken FunctionWithDivert)) Fine)
   unfolding judged_by first_broken broken
   purity-judged r =
-      let other : is flowStart w ≡ false = ne_eqb 12 (code w.kind) (λ e. omega arith) in
+      let other : is flow_start w ≡ false = ne_eqb 12 (code w.kind) (λ e. omega arith) in
       rw other (purity-tests (is choice w) (is divert w) (same END w.name || same DONE w.name))
 
   pub choices-judged : judged_by k h choices before w ≡ pick (is choice w) (pick w.branch (pick w.leaves Fine (Broken ChoiceUndiverted)) Fine) Fine
@@ -138,11 +138,11 @@ module _ (k : Known) (h : Here) (before : List What) (place : ℕ) (n : Name) wh
   unfolding judged_by first_broken broken
   params-judged = refl
 
-  pub stitch-judged : judged_by k h (bracket s12) before (name_item stitchName place n).what ≡ stitch_judged k n.bytes
+  pub stitch-judged : judged_by k h (bracket s12) before (name_item stitch_name place n).what ≡ stitch_judged k n.bytes
   unfolding judged_by first_broken broken
   stitch-judged = refl
 
-  pub start-judged : judged_by k h (bracket s5) before (name_item flowStart place n).what ≡ pick h.stitched (Broken FunctionWithStitches) Fine
+  pub start-judged : judged_by k h (bracket s5) before (name_item flow_start place n).what ≡ pick h.stitched (Broken FunctionWithStitches) Fine
   unfolding judged_by first_broken broken
   start-judged = refl
 
