@@ -24,6 +24,9 @@ FALL_TOGETHER = {
     "itemsAs": "items_ended",
     "keptOf": "kept_numbers",
 }
+# Constructors that share a line, and names that a `use` line gives.
+SHARED = re.compile(r"(?m)^ +((?:[a-z][\w'₀-₉]* )+): ")
+GIVEN = re.compile(r"(?m) as ([a-z][\w'₀-₉]*)")
 BOUND = re.compile(r"(?m)^\s*(?:let|λ|module _)?.*?(?:let |λ \(?|\()([a-z]\w*[A-Z]\w*)(?= (?:=|:)|\.)")
 
 
@@ -52,7 +55,8 @@ def snake(name):
 def table():
     rows = {}
     for p in files((".antt",)):
-        for n in DECLARED.findall(read(p)) + BOUND.findall(read(p)):
+        shared = [n for line in SHARED.findall(read(p)) for n in line.split()]
+        for n in DECLARED.findall(read(p)) + BOUND.findall(read(p)) + shared + GIVEN.findall(read(p)):
             if re.match(r"(?:returns|goal|loop|overflow|bounds|slice_bounds)\b", n):
                 continue
             if snake(n) != n:

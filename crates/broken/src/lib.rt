@@ -1,5 +1,6 @@
 // The fifteen rules at one thing that a step visits: a record, a parameter, a stitch's name or a flow's first byte.
 #![tactic(auto)]
+
 pub mod diverts;
 pub mod known;
 pub mod structure;

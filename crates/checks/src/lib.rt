@@ -1,5 +1,6 @@
 // The tests of the rules at one record or one name of a story.
 #![tactic(auto)]
+
 pub mod diverts;
 pub mod known;
 pub mod labels;

@@ -3,7 +3,7 @@ use mathlib.Core.Path.{◌≡◌, refl, ap}
 use mathlib.Core.List.{List, [], ◌∷◌, ◌++◌}
 use Prim.Native.Nat.{ℕ}
 use Rattle.fields.specs.Bytes.{pick}
-use Rattle.records.specs.Items.{What, Item, flowStart}
+use Rattle.records.specs.Items.{What, Item, flow_start}
 use Rattle.story.specs.Story.{Story, Name}
 use Rattle.rules.specs.declared.Rule.{Rule}
 use Rattle.rules.specs.declared.Rule.TheVariants.{FunctionWithStitches}
@@ -49,8 +49,8 @@ pub params-along : (k : Known) (h : Here) (flow : ℕ) (b c : List What) (is : L
 params-along k h flow b c is = along-alike k h flow (bracket s6) (bracket s6) (params-free k h) b c is
 
 pub purity-along : (s : Story) (scope : Scope) (place : ℕ) (n : Name) (is : List Item)
-    → found_in s scope (bracket s5) (name_item flowStart place n ∷ is)
-    ≡ or_else (found_at (pick (stitched scope) (judged.Broken FunctionWithStitches) judged.Fine) (flow_named scope) (name_item flowStart place n)) (found_in s scope (bracket s5) is)
+    → found_in s scope (bracket s5) (name_item flow_start place n ∷ is)
+    ≡ or_else (found_at (pick (stitched scope) (judged.Broken FunctionWithStitches) judged.Fine) (flow_named scope) (name_item flow_start place n)) (found_in s scope (bracket s5) is)
 unfolding found_in found_along here
 purity-along s scope place n is =
-    rw (start-judged (known s) (here s scope) [] place n) (ap (or_else _) (along-alike (known s) (here s scope) (flow_named scope) (bracket s5) (bracket s5) (purity-free (known s) (here s scope)) ((name_item flowStart place n).what ∷ []) [] is))
+    rw (start-judged (known s) (here s scope) [] place n) (ap (or_else _) (along-alike (known s) (here s scope) (flow_named scope) (bracket s5) (bracket s5) (purity-free (known s) (here s scope)) ((name_item flow_start place n).what ∷ []) [] is))

@@ -9,7 +9,7 @@ use lib.Seq.{drop-drop, drop-cons, get_or-drop}
 use Rattle.names.specs.Words.{Bytes}
 use Rattle.names.specs.Counted.{name_at}
 use Rattle.story.specs.declared.Sections.{Sections}
-use Rattle.records.specs.Items.{parameter, stitchName}
+use Rattle.records.specs.Items.{parameter, stitch_name}
 use Rattle.story.specs.Story.{Name}
 use Rattle.story.specs.Flows.{names_n, counted_in}
 use Rattle.story.proofs.Unfolding.{names-n-zero, names-n-none}
@@ -88,9 +88,9 @@ params-passed more p q e f g = record { rest = λ h. params-next more h p q e f 
 module _ (file : List ℕ) (c : Sections) (flow at : ℕ) {n : Bytes} (e : n ≡ name_at file at) {j : Judged} (f : j ≡ stitch_judged (known_in c file) n) (h : Here) where
   pub name-passed : j ≡ judged.Fine → found.Clear ≡ stitch_name_found file c h flow at
   name-passed g =
-      sym (along-passed (known_in c file) h flow (bracket s12) [] (name_item stitchName at (named file at)) [] (rw e at f ∙ sym (stitch-judged (known_in c file) h [] at (named file at))) g
+      sym (along-passed (known_in c file) h flow (bracket s12) [] (name_item stitch_name at (named file at)) [] (rw e at f ∙ sym (stitch-judged (known_in c file) h [] at (named file at))) g
       ∙ sym (along-none (known_in c file) h flow (bracket s12) _))
 
   pub name-found : {r : Rule} → j ≡ judged.Broken r → {b : BreachAt} → b ≡ breach_at r at (names_of r flow at) → found.Breach b ≡ stitch_name_found file c h flow at
   name-found g k =
-      rw k (along-found (known_in c file) h flow (bracket s12) [] (name_item stitchName at (named file at)) [] (rw e at f ∙ sym (stitch-judged (known_in c file) h [] at (named file at))) g)
+      rw k (along-found (known_in c file) h flow (bracket s12) [] (name_item stitch_name at (named file at)) [] (rw e at f ∙ sym (stitch-judged (known_in c file) h [] at (named file at))) g)

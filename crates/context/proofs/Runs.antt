@@ -7,7 +7,7 @@ use lib.ListN.{length}
 use Rattle.fields.specs.Bytes.{pick}
 use Rattle.names.specs.Words.{any, each}
 use Rattle.story.specs.declared.Sections.{Sections}
-use Rattle.records.specs.Items.{Item, flowStart}
+use Rattle.records.specs.Items.{Item, flow_start}
 use Rattle.story.specs.Story.{Stitch, Flow, Story}
 use Rattle.story.specs.Plain.{without_plain}
 use Rattle.story.specs.File.{story_in}
@@ -123,7 +123,7 @@ module _ (file kept : List ℕ) (c : Sections) (v : FlowView) (ready : FlowReady
 
 -- 5. Step 5: nothing of a flow that is no function; rule 12 where it has stitches; else what its body has
 
-pure-items : (b : Bool) (f : Flow) → b ≡ true → purity_items b f ≡ name_item flowStart f.at f.name ∷ f.body
+pure-items : (b : Bool) (f : Flow) → b ≡ true → purity_items b f ≡ name_item flow_start f.at f.name ∷ f.body
 pure-items b f e = rw e
 
 module _ (file kept : List ℕ) (c : Sections) (v : FlowView) (ready : FlowReady file kept v) where
@@ -134,10 +134,10 @@ module _ (file kept : List ℕ) (c : Sections) (v : FlowView) (ready : FlowReady
   -- the flow itself, then its body
   purity-run : v.function ≡ true
       → found_runs (kept_story c file) (over (knot (kept_flow file kept v)) (purity_items v.function (kept_flow file kept v)) (s5 ∷ []))
-      ≡ or_else (found_at (pick (any (λ (t : Stitch). true) (kept_flow file kept v).stitches) (judged.Broken FunctionWithStitches) judged.Fine) v.name (name_item flowStart v.at (kept_flow file kept v).name))
+      ≡ or_else (found_at (pick (any (λ (t : Stitch). true) (kept_flow file kept v).stitches) (judged.Broken FunctionWithStitches) judged.Fine) v.name (name_item flow_start v.at (kept_flow file kept v).name))
       (found_runs (kept_story c file) (over (knot (kept_flow file kept v)) (kept_flow file kept v).body (s5 ∷ [])))
   purity-run f =
-      rw (pure-items v.function (kept_flow file kept v) f, runs-one (kept_story c file) (knot (kept_flow file kept v)) (name_item flowStart v.at (kept_flow file kept v).name ∷ (kept_flow file kept v).body) s5, runs-one (kept_story c file) (knot (kept_flow file kept v)) (kept_flow file kept v).body s5)
+      rw (pure-items v.function (kept_flow file kept v) f, runs-one (kept_story c file) (knot (kept_flow file kept v)) (name_item flow_start v.at (kept_flow file kept v).name ∷ (kept_flow file kept v).body) s5, runs-one (kept_story c file) (knot (kept_flow file kept v)) (kept_flow file kept v).body s5)
       (purity-along (kept_story c file) (knot (kept_flow file kept v)) v.at (kept_flow file kept v).name (kept_flow file kept v).body)
 
   module _ (f : v.function ≡ true) {t : Bool} (e : t ≡ any (λ (t : Stitch). true) (kept_stitches file v.stitches v.end)) where

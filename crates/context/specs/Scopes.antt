@@ -4,7 +4,7 @@ use Rattle.names.specs.Words.{Bytes, any, each}
 use Rattle.names.specs.Counted.{name_at}
 use Rattle.records.specs.Trace.{well, ends}
 use Rattle.story.specs.declared.Sections.{Sections}
-use Rattle.records.specs.Items.{stitchName}
+use Rattle.records.specs.Items.{stitch_name}
 use Rattle.story.specs.Story.{Name, Stitch, Flow}
 use Rattle.story.specs.Flows.{flows, part, flows_in}
 use Rattle.story.specs.Plain.{flow_without_plain}
@@ -117,7 +117,7 @@ params_found file c h flow names = found_along (known_in c file) h flow (bracket
 -- step 12, at the stitch's name
 abbrev pub stitch_name_found : List ℕ → Sections → Here → ℕ → ℕ → Found
 stitch_name_found file c h flow at =
-    found_along (known_in c file) h flow (bracket s12) [] (name_item stitchName at (record { at = at; bytes = name_at file at }) ∷ [])
+    found_along (known_in c file) h flow (bracket s12) [] (name_item stitch_name at (record { at = at; bytes = name_at file at }) ∷ [])
 
 -- steps 5 and 6
 abbrev pub first_runs : Flow → List Run

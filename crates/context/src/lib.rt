@@ -1,5 +1,6 @@
 // The twenty steps over a story whose index is written: the first breach, or none.
 #![tactic(auto)]
+
 pub mod breaches;
 pub mod context;
 pub mod passes;

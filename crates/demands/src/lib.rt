@@ -1,5 +1,6 @@
 // The demands on the callable functions as claims: specs/ has what is claimed, proofs/ that their contracts meet it. Nothing runs here.
 #![tactic(auto)]
+
 ghost use Rattle.std.specs.Prelude.{◌≡◌};
 
 // A crate has a function; no program calls this one.

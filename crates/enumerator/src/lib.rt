@@ -1,5 +1,6 @@
 // The index of a story: its entries, written as three numbers each, and found by a target.
 #![tactic(auto)]
+
 pub mod answers;
 pub mod entries;
 pub mod visits;

@@ -1,5 +1,6 @@
 // Filters: names that a body does not have, so that most searches need not be made; rules 4, 6, 7, 10 and 15 tested through them.
 #![tactic(auto)]
+
 pub mod declared;
 pub mod gathers;
 pub mod labels;

@@ -1,5 +1,6 @@
 // Reads a story file from standard input, at most 4,096 bytes, and prints one line: `accepted`, `refused N`, or `breach R at P: TEXT`.
 #![tactic(auto)]
+
 use lines::input_line;
 
 // Lends the buffers: a byte more than a story may have, three numbers for each byte before the trailer, the message and the line.

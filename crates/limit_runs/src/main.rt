@@ -1,5 +1,6 @@
 // Builds stories at the limits in a buffer, checks each, and writes its line and its number of entries.
 #![tactic(auto)]
+
 use lines::check_line;
 use validator::Answer;
 

@@ -1,5 +1,6 @@
 // The line that a program prints for a story file, written into a buffer that the caller lends.
 #![tactic(auto)]
+
 ghost use Rattle.std.specs.Prelude.{◌≡◌, ◌+◌, ◌≤◌, length, [], ◌∷◌};
 ghost use Rattle.messages.specs.Messages.{Wrote};
 ghost use Rattle.validator.specs.Results.{result_of};

@@ -3,6 +3,7 @@ ghost use Rattle.std.specs.Prelude.{◌≤◌, length};
 
 use crate::shown::{BLANK, show_lent};
 use names::same_name;
+use std::io;
 
 // What a block tells: how many numbers of the index are lent, and the lengths of the file and of the target.
 #[derive(Clone, Copy)]
@@ -73,71 +74,101 @@ fn decode(text: &[u8], out: &mut [u8]) -> usize
 }
 
 // Runs the lookup of a block, behind the answers that the list has for it.
-fn show_block(block: Block, answers: &[u8], file: &[u8], target: &[u8], index: &mut [u32]) {
+fn show_block(
+    rt: &impl Print,
+    block: Block,
+    answers: &[u8],
+    file: &[u8],
+    target: &[u8],
+    index: &mut [u32],
+) -> io::Result<()> {
     if file.len() < block.file {
-        return;
+        return Ok(());
     }
     if target.len() < block.target {
-        return;
+        return Ok(());
     }
     let length = block.file;
     let many = block.target;
-    io::write_all(1, b", listed ");
-    io::write_all(1, answers);
-    io::write_all(1, b": ");
-    show_lent(&file[0..length], index, block.lent, BLANK, &target[0..many]);
+    rt.write_all(b", listed ")?;
+    rt.write_all(answers)?;
+    rt.write_all(b": ")?;
+    show_lent(
+        rt,
+        &file[0..length],
+        index,
+        block.lent,
+        BLANK,
+        &target[0..many],
+    )
 }
 
 // What the block tells with one line more, by the line's word; the answer's line ends it.
 fn take_line(
+    rt: &impl Print,
     word: &[u8],
     rest: &[u8],
     block: Block,
     file: &mut [u8],
     target: &mut [u8],
     index: &mut [u32],
-) -> Block {
+) -> io::Result<Block> {
     if same_name(word, b"lookup") {
-        io::write_all(1, rest);
-        return block;
+        rt.write_all(rest)?;
+        return Ok(block);
     }
     let mut next = block;
     if same_name(word, b"lent") {
         next.lent = number_in(rest);
-        return next;
+        return Ok(next);
     }
     if same_name(word, b"input") {
         next.file = decode(rest, file);
-        return next;
+        return Ok(next);
     }
     if same_name(word, b"target") {
         next.target = decode(rest, target);
-        return next;
+        return Ok(next);
     }
     if same_name(word, b"answer") {
-        show_block(block, rest, file, target, index);
+        show_block(rt, block, rest, file, target, index)?;
     }
-    block
+    Ok(block)
 }
 
 // Takes a line apart at its first space.
 fn split_line(
+    rt: &impl Print,
     line: &[u8],
     block: Block,
     file: &mut [u8],
     target: &mut [u8],
     index: &mut [u32],
-) -> Block {
+) -> io::Result<Block> {
     let end = find_byte(line, 0, 32);
     if end < line.len() {
         let start = end + 1;
-        return take_line(&line[0..end], &line[start..], block, file, target, index);
+        return take_line(
+            rt,
+            &line[0..end],
+            &line[start..],
+            block,
+            file,
+            target,
+            index,
+        );
     }
-    take_line(line, &line[end..], block, file, target, index)
+    take_line(rt, line, &line[end..], block, file, target, index)
 }
 
 // Runs the lookups of a list.
-pub fn show_list(list: &[u8], file: &mut [u8], target: &mut [u8], index: &mut [u32]) {
+pub fn show_list(
+    rt: &impl Print,
+    list: &[u8],
+    file: &mut [u8],
+    target: &mut [u8],
+    index: &mut [u32],
+) -> io::Result<()> {
     let mut block = Block {
         lent: 0,
         file: 0,
@@ -146,10 +177,11 @@ pub fn show_list(list: &[u8], file: &mut [u8], target: &mut [u8], index: &mut [u
     let mut at: usize = 0;
     while at < list.len() {
         let end = find_byte(list, at, 10);
-        block = split_line(&list[at..end], block, file, target, index);
+        block = split_line(rt, &list[at..end], block, file, target, index)?;
         if end == list.len() {
             break;
         }
         at = end + 1;
     }
+    Ok(())
 }

@@ -1,5 +1,6 @@
 // A target looked up in a story file, without regard to where a divert stands.
 #![tactic(auto)]
+
 ghost use Rattle.std.specs.Prelude.{◌≡◌, ◌∷◌, ◌≤◌, ◌*◌, length};
 ghost use Rattle.names.specs.Words.{same, ends};
 ghost use Rattle.story.specs.File.{story_in, InOrder};

@@ -1,5 +1,6 @@
 // The texts of the breaches, written into a buffer that the caller lends.
 #![tactic(auto)]
+
 ghost use Rattle.std.specs.Prelude.{◌+◌, ◌≤◌, length};
 ghost use Rattle.messages.specs.Messages.{around, around_both, Wrote, Message};
 

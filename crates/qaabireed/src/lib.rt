@@ -1,5 +1,6 @@
 // The library for programs in other languages: calls on lent buffers of numbers.
 #![tactic(auto)]
+
 ghost use Rattle.std.specs.Prelude.{◌≡◌, [], ◌∷◌, ◌≤◌, ◌<◌, ◌^◌, length};
 ghost use Rattle.records.specs.Buffers.{overlay};
 ghost use Rattle.validator.specs.Results.{result_of};

@@ -1,5 +1,6 @@
 // The archive for programs in other languages: the calls of the library, each with its clauses.
 #![tactic(auto)]
+
 ghost use Rattle.qaabireed.specs.Calls.{CheckCalled, LookupCalled};
 
 // Checks a story file, and writes the numbers of the result; 1, and nothing is written, where their buffer has under seven.

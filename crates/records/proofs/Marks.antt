@@ -7,7 +7,7 @@ use Rattle.fields.specs.declared.Kinded.{Kinded}
 use Rattle.fields.specs.declared.Kinded.TheVariants as kinded
 use Rattle.fields.specs.Bytes.{pick}
 use Rattle.fields.specs.Kinds.{kind_of, node_kinds, node_kind, cond_kinds, cond_kind, expr_kinds, expr_kind}
-use Rattle.records.specs.Items.{Kind, plain, temp, divert, tunnel, thread, call, variable, argument, choice, gather, parameter, stitchName, flowStart, code, assigned, node_sorts, cond_sorts, expr_sorts, argument_sorts, sort_of, labelled, in_branch, leaves, what_of, item_as, item_of}
+use Rattle.records.specs.Items.{Kind, plain, temp, divert, tunnel, thread, call, variable, argument, choice, gather, parameter, stitch_name, flow_start, code, assigned, node_sorts, cond_sorts, expr_sorts, argument_sorts, sort_of, labelled, in_branch, leaves, what_of, item_as, item_of}
 use Rattle.records.specs.Numbers.{bit, mark_of, number_of}
 use Rattle.records.specs.Work.{st, keep, keeping, last_slot, leaves_at, put_leaves}
 use Rattle.records.proofs.Tables.{Misses, missed, all-pairs, pairs-at}
@@ -60,8 +60,8 @@ code-small argument = omega arith
 code-small choice = omega arith
 code-small gather = omega arith
 code-small parameter = omega arith
-code-small stitchName = omega arith
-code-small flowStart = omega arith
+code-small stitch_name = omega arith
+code-small flow_start = omega arith
 
 pub bit-small : (b : Bool) → bit b ≤ 1
 unfolding bit

@@ -13,7 +13,7 @@ use Rattle.records.specs.Grammar.{nodes}
 --   argument: a DivertTarget directly an argument of nodes 3, 4, 5. plain: every other record, node 7 among them.
 -- The last three are no records of a body: a parameter's name, a stitch's name, a flow's first byte.
 pub data Kind : Type 0 where
-  plain temp divert tunnel thread call variable argument choice gather parameter stitchName flowStart : Kind
+  plain temp divert tunnel thread call variable argument choice gather parameter stitch_name flow_start : Kind
 
 -- a number for each kind
 abbrev pub code : Kind → ℕ
@@ -28,8 +28,8 @@ code argument = 7
 code choice = 8
 code gather = 9
 code parameter = 10
-code stitchName = 11
-code flowStart = 12
+code stitch_name = 11
+code flow_start = 12
 
 -- what the rules ask of a record
 pub record What : Type 0 where

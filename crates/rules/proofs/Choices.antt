@@ -26,7 +26,7 @@ use Rattle.records.specs.Trace.{Trace, and_then, shift, Record, met, well, ends}
 use Rattle.records.specs.Grammar.{Reading, Reader, front_at, front, ending, records, piece_at, listed, named_at, flagged_at, last, options, body_of, record_of, nodes}
 use Rattle.records.proofs.Traces.{shift-shift, then-done, shift-done}
 use Rattle.records.proofs.Readings.{front-local, repeat-step}
-use Rattle.records.specs.Items.{Kind, plain, temp, divert, tunnel, thread, call, variable, argument, choice, gather, parameter, stitchName, flowStart, code, What, Item, sort_of, leaving, ending_at, ending_n, end_with_divert, spanned, past, unlabelled, second_list, choice_body, leaves, what_of, item_as, item_of}
+use Rattle.records.specs.Items.{Kind, plain, temp, divert, tunnel, thread, call, variable, argument, choice, gather, parameter, stitch_name, flow_start, code, What, Item, sort_of, leaving, ending_at, ending_n, end_with_divert, spanned, past, unlabelled, second_list, choice_body, leaves, what_of, item_as, item_of}
 use Rattle.story.specs.Story.{Story}
 use Rattle.story.proofs.Endings.{ends-then, ends-shift, second-well}
 use Rattle.story.proofs.WellInside.{record-bears}
@@ -298,8 +298,8 @@ choice-code argument e = absurd (omega arith)
 choice-code choice e = refl
 choice-code gather e = absurd (omega arith)
 choice-code parameter e = absurd (omega arith)
-choice-code stitchName e = absurd (omega arith)
-choice-code flowStart e = absurd (omega arith)
+choice-code stitch_name e = absurd (omega arith)
+choice-code flow_start e = absurd (omega arith)
 
 -- the item of a record is a choice where the record is
 is-choice : (r : Record) → Is choice (item_of r).what ↔ VisitedAs choice r.role r.kind r.payload

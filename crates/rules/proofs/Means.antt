@@ -8,7 +8,7 @@ use lib.Dec.{T, eqb, eqb→eq, eqb_refl}
 use Rattle.names.specs.Words.{Bytes, ◌∈◌}
 use Rattle.names.specs.Reserved.{END, DONE, back, builtins}
 use Rattle.names.proofs.Means.{Means, itself, never, both, three, four, either, either3, fails, some_of, some-both, equal, member, end, pass}
-use Rattle.records.specs.Items.{Kind, temp, divert, tunnel, thread, call, variable, argument, choice, gather, parameter, stitchName, flowStart, code, What, is, Item}
+use Rattle.records.specs.Items.{Kind, temp, divert, tunnel, thread, call, variable, argument, choice, gather, parameter, stitch_name, flow_start, code, What, is, Item}
 use Rattle.story.specs.Story.{Flow, Story, words, whats}
 use Rattle.items.specs.Search.{label_in, temp_in}
 use Rattle.symbols.specs.Index.{spellings}
@@ -118,14 +118,14 @@ broken-means s sc before FunctionDivertedTo w = three (a-target w) (fails (pass 
 broken-means s sc before TargetNotFound w = four (a-target w) (fails (pass w.name)) (fails (a-function s w.name)) (fails (found s w.name))
 broken-means s sc before FlowCalled w = three (kind call w) (fails (call-passes s w.name)) (a-flow s w.name)
 broken-means s sc before NameIsFunction w = both (either (kind temp w) (kind parameter w)) (a-function s w.name)
-broken-means s sc before NameIsGlobal w = both (either (kind parameter w) (kind stitchName w)) (a-global s w.name)
+broken-means s sc before NameIsGlobal w = both (either (kind parameter w) (kind stitch_name w)) (a-global s w.name)
 broken-means s sc before TempIsParameter w = both (kind temp w) (a-param s w.name sc)
 broken-means s sc before TempIsLabel w = both (kind temp w) (a-label s w.name sc)
 broken-means s sc before ParameterUnmarked w = three (a-target w) (a-param s w.name sc) (fails (a-mark s w.name sc))
 broken-means s sc before ParameterAlreadyMarked w = both (kind argument w) (a-mark s w.name sc)
 broken-means s sc before GatherRepeated w = both (kind gather w) (some-both before (kind gather) (λ v. equal w.name v.name))
 broken-means s sc before ChoiceUndiverted w = three (kind choice w) (itself w.branch) (fails (itself w.leaves))
-broken-means s sc before FunctionWithStitches w = both (kind flowStart w) (has-stitches s sc)
+broken-means s sc before FunctionWithStitches w = both (kind flow_start w) (has-stitches s sc)
 broken-means s sc before FunctionWithChoice w = kind choice w
 broken-means s sc before FunctionWithDivert w = both (kind divert w) (fails (either (equal END w.name) (equal DONE w.name)))
 broken-means s sc before VariableForbidden w = both (kind variable w) (is-forbidden s w.name sc)

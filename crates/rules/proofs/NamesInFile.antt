@@ -15,7 +15,7 @@ use Rattle.names.proofs.Any.{any-in}
 use Rattle.names.proofs.Lists.{in-each}
 use Rattle.records.specs.Trace.{met}
 use Rattle.records.specs.Grammar.{nodes}
-use Rattle.records.specs.Items.{Kind, plain, temp, divert, tunnel, thread, call, variable, argument, choice, gather, parameter, stitchName, flowStart, code, What, Item, sort_of, nameless, same_kind, what_of, item_as, item_of}
+use Rattle.records.specs.Items.{Kind, plain, temp, divert, tunnel, thread, call, variable, argument, choice, gather, parameter, stitch_name, flow_start, code, What, Item, sort_of, nameless, same_kind, what_of, item_as, item_of}
 use Rattle.story.specs.Story.{Name, Stitch, Flow, Story, whats}
 use Rattle.story.proofs.Readable as reader
 use Rattle.story.proofs.Named.{record-as-file}
@@ -59,14 +59,14 @@ broken-named s sc before FunctionDivertedTo p q h = of-target h.0
 broken-named s sc before TargetNotFound p q h = of-target h.0
 broken-named s sc before FlowCalled p q h = of_kind call tt h.0
 broken-named s sc before NameIsFunction p q h = ⊎_elim (of_kind temp tt) (of_kind parameter tt) h.0
-broken-named s sc before NameIsGlobal p q h = ⊎_elim (of_kind parameter tt) (of_kind stitchName tt) h.0
+broken-named s sc before NameIsGlobal p q h = ⊎_elim (of_kind parameter tt) (of_kind stitch_name tt) h.0
 broken-named s sc before TempIsParameter p q h = of_kind temp tt h.0
 broken-named s sc before TempIsLabel p q h = of_kind temp tt h.0
 broken-named s sc before ParameterUnmarked p q h = of-target h.0
 broken-named s sc before ParameterAlreadyMarked p q h = of_kind argument tt h.0
 broken-named s sc before GatherRepeated p q h = of_kind gather tt h.0
 broken-named s sc before ChoiceUndiverted p q h = absurd (p refl)
-broken-named s sc before FunctionWithStitches p q h = of_kind flowStart tt h.0
+broken-named s sc before FunctionWithStitches p q h = of_kind flow_start tt h.0
 broken-named s sc before FunctionWithChoice p q h = absurd (q refl)
 broken-named s sc before FunctionWithDivert p q h = of_kind divert tt h.0
 broken-named s sc before VariableForbidden p q h = of_kind variable tt h.0

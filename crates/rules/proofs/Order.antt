@@ -6,7 +6,7 @@ use mathlib.Core.List.{List, [], ◌∷◌, ◌++◌, map}
 use mathlib.Core.Logic.{◌↔◌}
 use mathlib.Core.Option.{none, some-ne-none}
 use Rattle.names.specs.Words.{Bytes, same, any, ends}
-use Rattle.records.specs.Items.{Kind, parameter, stitchName, flowStart, What, Item}
+use Rattle.records.specs.Items.{Kind, parameter, stitch_name, flow_start, What, Item}
 use Rattle.story.specs.Story.{Name, Stitch, Flow, Story, words, whats}
 use Rattle.items.specs.Search.{label_in, temp_in}
 use Rattle.rules.specs.Rules.{Known, Here, known, knot_label, Scope, root, knot, stitch, here}
@@ -110,7 +110,7 @@ params-whats [] = refl
 params-whats (n ∷ ns) = rw (params-whats ns)
 
 purity_whats : Bool → Bytes → List What → List What
-purity_whats true n body = name_whats flowStart (n ∷ []) ++ body
+purity_whats true n body = name_whats flow_start (n ∷ []) ++ body
 purity_whats false n body = []
 
 purity-whats : (b : Bool) (f : Flow) → whats (purity_items b f) ≡ purity_whats b f.name.bytes (whats f.body)
@@ -124,7 +124,7 @@ purity-shuffled true n a b h = (_, [], b, refl, refl, h)
 purity-shuffled false n a b h = refl
 
 stitch_finds : Known → Here → Bytes → List What → Bool
-stitch_finds k h name body = steps_find k h (name_whats stitchName (name ∷ [])) (s12 ∷ []) || steps_find k h body stitch_steps
+stitch_finds k h name body = steps_find k h (name_whats stitch_name (name ∷ [])) (s12 ∷ []) || steps_find k h body stitch_steps
 
 stitch-finds : (s : Story) (f : Flow) (t : Stitch)
     → any (in_breach s) (stitch_runs f t) ≡ stitch_finds (known s) (here s (stitch f t)) t.name.bytes (whats t.body)

@@ -5,7 +5,7 @@ use mathlib.Core.List.{List, [], ◌∷◌, ◌++◌}
 use Prim.Native.Nat.{ℕ, suc}
 use Rattle.names.specs.Words.{Bytes, same, any, only, each}
 use Rattle.names.proofs.Any.{any_append}
-use Rattle.records.specs.Items.{Kind, plain, temp, gather, parameter, stitchName, flowStart, What, is, Item}
+use Rattle.records.specs.Items.{Kind, plain, temp, gather, parameter, stitch_name, flow_start, What, is, Item}
 use Rattle.story.specs.Story.{Name, Stitch, Flow, Story, whats}
 use Rattle.story.specs.Plain.{without_plain, Unlabelled, UnlabelledStory}
 use Rattle.story.specs.Fewer.{Aligned, end, next, Matching, same_places, LikeName, LikeItem, IsPlain, Fewer, none, kept, left, FewerStitch, FewerFlow, FewerStory}
@@ -233,13 +233,13 @@ module _ (m : Matching) (missing : m.name absent absent) where
   like-params (next {x = x} {y = y} h rest) = kept (like-visited parameter x y h) (like-params rest)
 
   like-title : (a b : Stitch) → FewerStitch m a b → Fewer m (stitch_items a) (stitch_items b)
-  like-title a b h = kept (like-visited stitchName a.name b.name h.name) none
+  like-title a b h = kept (like-visited stitch_name a.name b.name h.name) none
 
   like-purity : (f g : Flow) → FewerFlow m f g → Fewer m (purity_items f.function f) (purity_items g.function g)
   like-purity f g h = subst (λ (i : Bool). Fewer m (purity_items f.function f) (purity_items i g)) h.function (by_flag f.function)
     where
       by_flag : (i : Bool) → Fewer m (purity_items i f) (purity_items i g)
-      by_flag true = kept (like-item flowStart f.at g.at f.name g.name h.at h.name) h.body
+      by_flag true = kept (like-item flow_start f.at g.at f.name g.name h.at h.name) h.body
       by_flag false = none
 
   module _ (s t : Story) where

@@ -13,7 +13,7 @@ use borrow.Author.Tests.{eqb-true}
 use Rattle.fields.specs.declared.Role.{Role}
 use Rattle.fields.specs.declared.Role.TheVariants.{Node, Branch, Cond, Visited, Argument, Unvisited}
 use Rattle.fields.specs.Bytes.{pick}
-use Rattle.records.specs.Items.{Kind, plain, temp, divert, tunnel, thread, call, variable, argument, choice, gather, parameter, stitchName, flowStart, node_sorts, sort_of}
+use Rattle.records.specs.Items.{Kind, plain, temp, divert, tunnel, thread, call, variable, argument, choice, gather, parameter, stitch_name, flow_start, node_sorts, sort_of}
 use Rattle.rules.specs.Sorts.{IsNode, VisitedAs}
 
 -- 1. What is visited is of the sort
@@ -42,8 +42,8 @@ visited-sort variable r kind payload h = rw (h.0, h.1)
 visited-sort argument r kind payload h = rw (h.0, h.1)
 visited-sort plain r kind payload h = absurd h
 visited-sort parameter r kind payload h = absurd h
-visited-sort stitchName r kind payload h = absurd h
-visited-sort flowStart r kind payload h = absurd h
+visited-sort stitch_name r kind payload h = absurd h
+visited-sort flow_start r kind payload h = absurd h
 
 -- 2. What is of a sort is plain or visited as that
 

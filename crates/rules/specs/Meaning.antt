@@ -3,7 +3,7 @@
 use Rattle.std.specs.Prelude.{◌≡◌, List, [], ◌∷◌, ◌++◌, map, ◌⊎◌, ℕ, ◌+◌, ◌-◌, ◌*◌, ◌<◌, T, length}
 use Rattle.names.specs.Words.{Bytes, ◌∈◌}
 use Rattle.names.specs.Reserved.{END, DONE, arrow, back, builtins}
-use Rattle.records.specs.Items.{Kind, temp, divert, tunnel, thread, call, variable, argument, choice, gather, parameter, stitchName, flowStart, code, What, Item}
+use Rattle.records.specs.Items.{Kind, temp, divert, tunnel, thread, call, variable, argument, choice, gather, parameter, stitch_name, flow_start, code, What, Item}
 use Rattle.story.specs.Story.{Name, Stitch, Flow, Story, words, whats}
 use Rattle.symbols.specs.Spelled.{LabelIn, Spelled}
 use Rattle.symbols.specs.Numbers.{absent}
@@ -86,14 +86,14 @@ Broken s sc before FunctionDivertedTo w = Target w × (Passes w.name → ⊥) ×
 Broken s sc before TargetNotFound w = Target w × (Passes w.name → ⊥) × (Function s w.name → ⊥) × (Found s w.name → ⊥)
 Broken s sc before FlowCalled w = Is call w × (CallPasses s w.name → ⊥) × FlowName s w.name
 Broken s sc before NameIsFunction w = (Is temp w ⊎ Is parameter w) × Function s w.name
-Broken s sc before NameIsGlobal w = (Is parameter w ⊎ Is stitchName w) × w.name ∈ words s.globals
+Broken s sc before NameIsGlobal w = (Is parameter w ⊎ Is stitch_name w) × w.name ∈ words s.globals
 Broken s sc before TempIsParameter w = Is temp w × Param sc w.name
 Broken s sc before TempIsLabel w = Is temp w × Label s sc w.name
 Broken s sc before ParameterUnmarked w = Target w × Param sc w.name × (Mark sc w.name → ⊥)
 Broken s sc before ParameterAlreadyMarked w = Is argument w × Mark sc w.name
 Broken s sc before GatherRepeated w = Is gather w × ((v : What) × v ∈ before × Is gather v × (w.name ≡ v.name))
 Broken s sc before ChoiceUndiverted w = Is choice w × T w.branch × (T w.leaves → ⊥)
-Broken s sc before FunctionWithStitches w = Is flowStart w × Stitched sc
+Broken s sc before FunctionWithStitches w = Is flow_start w × Stitched sc
 Broken s sc before FunctionWithChoice w = Is choice w
 Broken s sc before FunctionWithDivert w = Is divert w × ((END ≡ w.name ⊎ DONE ≡ w.name) → ⊥)
 Broken s sc before VariableForbidden w = Is variable w × Forbidden sc w.name
@@ -142,12 +142,12 @@ stitch_begin begin before = begin + 7 + 7 * length before
 
 -- a stitch's 12 to 18, from the number `begin` on
 pub data RanInStitch (f : Flow) (t : Stitch) (begin : ℕ) : ℕ → Run → Type 0 where
-  ran_name : RanInStitch f t begin begin (run (stitch f t) (name_item stitchName t.name.at t.name ∷ []) s12)
+  ran_name : RanInStitch f t begin begin (run (stitch f t) (name_item stitch_name t.name.at t.name ∷ []) s12)
   ran_stitch_body : {st : Step} → st ∈ (s13 ∷ s14 ∷ s15 ∷ s16 ∷ s17 ∷ s18 ∷ []) → RanInStitch f t begin (begin + (step_number st - 12)) (run (stitch f t) t.body st)
 
 -- a flow's 5 to 11, from the number `begin` on, those of each stitch, its 19; step 5 visits nothing in a flow that isn't a function
 pub data RanInFlow (f : Flow) (begin : ℕ) : ℕ → Run → Type 0 where
-  ran_purity : T f.function → RanInFlow f begin begin (run (knot f) (name_item flowStart f.at f.name ∷ f.body) s5)
+  ran_purity : T f.function → RanInFlow f begin begin (run (knot f) (name_item flow_start f.at f.name ∷ f.body) s5)
   ran_no_purity : (T f.function → ⊥) → RanInFlow f begin begin (run (knot f) [] s5)
   ran_params : RanInFlow f begin (begin + 1) (run (knot f) (map (λ (n : Name). name_item parameter n.at n) f.params) s6)
   ran_flow_body : {st : Step} → st ∈ (s7 ∷ s8 ∷ s9 ∷ s10 ∷ s11 ∷ []) → RanInFlow f begin (begin + (step_number st - 5)) (run (knot f) f.body st)

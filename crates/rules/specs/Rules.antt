@@ -4,7 +4,7 @@ use Rattle.std.specs.Prelude.{Bool, true, false, not, ◌&&◌, ◌||◌, List, 
 use Rattle.names.specs.Words.{Bytes, same, any, one_of, ends}
 use Rattle.names.specs.Reserved.{END, DONE, back, builtins}
 use Rattle.names.specs.Targets.{passes}
-use Rattle.records.specs.Items.{temp, divert, tunnel, thread, call, variable, argument, choice, gather, parameter, stitchName, flowStart, What, is}
+use Rattle.records.specs.Items.{temp, divert, tunnel, thread, call, variable, argument, choice, gather, parameter, stitch_name, flow_start, What, is}
 use Rattle.story.specs.Story.{Stitch, Flow, Story, words}
 use Rattle.searches.specs.Called.{is_flow, is_function}
 use Rattle.items.specs.Search.{label_in, temp_in}
@@ -64,7 +64,7 @@ broken k h before TargetNotFound w = target w && not (passes w.name) && not (k.f
 broken k h before FlowCalled w = is call w && not (call_passes k w.name) && k.flow w.name
 -- 4 name is a function's; 5 name is a global's
 broken k h before NameIsFunction w = (is temp w || is parameter w) && k.function w.name
-broken k h before NameIsGlobal w = (is parameter w || is stitchName w) && k.global w.name
+broken k h before NameIsGlobal w = (is parameter w || is stitch_name w) && k.global w.name
 -- 6 temp is a parameter; 7 temp is a label
 broken k h before TempIsParameter w = is temp w && h.param w.name
 broken k h before TempIsLabel w = is temp w && h.label w.name
@@ -76,7 +76,7 @@ broken k h before GatherRepeated w = is gather w && any (λ (v : What). is gathe
 -- 11 choice directly in a branch of kind 8 or 9, its body's last non-Newline missing or not of kinds 3, 6, 7, 11, 12
 broken k h before ChoiceUndiverted w = is choice w && w.branch && not w.leaves
 -- 12 function with stitches; 13 with a choice; 14 with a Divert other than END or DONE
-broken k h before FunctionWithStitches w = is flowStart w && h.stitched
+broken k h before FunctionWithStitches w = is flow_start w && h.stitched
 broken k h before FunctionWithChoice w = is choice w
 broken k h before FunctionWithDivert w = is divert w && not (same END w.name || same DONE w.name)
 -- 15 Variable forbidden here

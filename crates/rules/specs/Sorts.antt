@@ -11,7 +11,7 @@ use Rattle.fields.specs.Kinds.{kind_of}
 use Rattle.names.specs.Words.{◌∈◌}
 use Rattle.records.specs.Trace.{done, emit, Record, met}
 use Rattle.records.specs.Grammar.{Reader, body_of}
-use Rattle.records.specs.Items.{Kind, plain, temp, divert, tunnel, thread, call, variable, argument, choice, gather, parameter, stitchName, flowStart, Item}
+use Rattle.records.specs.Items.{Kind, plain, temp, divert, tunnel, thread, call, variable, argument, choice, gather, parameter, stitch_name, flow_start, Item}
 use Rattle.story.specs.Story.{Stitch, Flow, Story}
 
 -- a node: also one directly in a branch of kind 8 or 9
@@ -33,8 +33,8 @@ VisitedAs variable r kind payload = (r ≡ Visited) × (kind ≡ 1)
 VisitedAs argument r kind payload = (r ≡ Argument) × (kind ≡ 2)
 VisitedAs plain r kind payload = ⊥
 VisitedAs parameter r kind payload = ⊥
-VisitedAs stitchName r kind payload = ⊥
-VisitedAs flowStart r kind payload = ⊥
+VisitedAs stitch_name r kind payload = ⊥
+VisitedAs flow_start r kind payload = ⊥
 
 -- RULE 11: directly in a branch of kind 8 or 9
 

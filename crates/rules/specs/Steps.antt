@@ -2,7 +2,7 @@
 use Rattle.std.specs.Prelude.{◌≡◌, Bool, true, false, List, [], ◌∷◌, ◌++◌, map, ◌⊎◌, ℕ, suc, ◌<◌}
 use Rattle.std.proofs.Math.Option.{Option, none, some}
 use Rattle.names.specs.Words.{only, each}
-use Rattle.records.specs.Items.{Kind, parameter, stitchName, flowStart, What, Item}
+use Rattle.records.specs.Items.{Kind, parameter, stitch_name, flow_start, What, Item}
 use Rattle.story.specs.Story.{Name, Stitch, Flow, Story}
 use Rattle.symbols.specs.Numbers.{absent}
 use Rattle.rules.specs.declared.Rule.{Rule}
@@ -115,11 +115,11 @@ param_items l = map (λ (n : Name). name_item parameter n.at n) l
 
 -- the name of a stitch
 abbrev pub stitch_items : Stitch → List Item
-stitch_items t = name_item stitchName t.name.at t.name ∷ []
+stitch_items t = name_item stitch_name t.name.at t.name ∷ []
 
 -- step 5 does nothing for a flow that isn't a function; for rule 12 the place is the flow's first byte
 abbrev pub purity_items : Bool → Flow → List Item
-purity_items true f = name_item flowStart f.at f.name ∷ f.body
+purity_items true f = name_item flow_start f.at f.name ∷ f.body
 purity_items false f = []
 
 -- steps 1 to 4, over the root

@@ -5,8 +5,7 @@ use Prim.Native.Nat.{ℕ}
 use native.Mathlib.Omega.{arith}
 use Rattle.story.specs.declared.Sections.{Sections}
 use Rattle.story.specs.File.{story_in}
-use Rattle.sets.specs.declared.known.Names.{Names}
-use Rattle.sets.specs.Sets.{name_slots, Empty, Holding, Same, Without}
+use Rattle.sets.specs.Sets.{name_slots, Empty, Without}
 use Rattle.sets.specs.Known.{NamesPut, FlowsPut, NamesIn}
 use Rattle.sets.proofs.Holding.{empty-without, without-same, same_next}
 

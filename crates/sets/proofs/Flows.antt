@@ -1,6 +1,6 @@
 -- The names of the flows put into a set flow by flow, as far as it has room. Assumes nothing.
 use mathlib.Core.Path.{◌≡◌, refl, sym, ◌∙◌}
-use mathlib.Core.Bool.{Bool, true, false, ◌&&◌, ◌||◌, or_assoc}
+use mathlib.Core.Bool.{Bool, true, false, ◌||◌, or_assoc}
 use mathlib.Core.List.{List, ◌∷◌}
 use Prim.Native.Nat.{ℕ, ◌-◌, ◌≤◌}
 use native.Mathlib.Omega.{arith}
@@ -15,7 +15,7 @@ use Rattle.searches.specs.Called.{called_as}
 use Rattle.searches.specs.Views.{viewed_flow}
 use Rattle.searches.proofs.Answers.{flows-answer}
 use Rattle.sets.specs.declared.PutAnswer.{PutAnswer}
-use Rattle.sets.specs.Sets.{name_slots, held, Reachable, is_full, PutIn, Same, Without}
+use Rattle.sets.specs.Sets.{name_slots, held, is_full, PutIn, Without}
 use Rattle.sets.specs.Known.{flow_class, view_called, FlowPut, FlowsHeld, FlowsPut}
 use Rattle.sets.proofs.Holding.{put-own, put_other, same_start, same_next}
 

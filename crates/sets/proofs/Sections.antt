@@ -15,7 +15,7 @@ use Rattle.story.specs.Flows.{names_n, names_in, part}
 use Rattle.searches.proofs.Parts.{part-drop, part-take}
 use Rattle.searches.proofs.Answers.{section-answer}
 use Rattle.sets.specs.declared.PutAnswer.{PutAnswer}
-use Rattle.sets.specs.Sets.{name_slots, held, is_full, PutIn, Holding, Same, Without}
+use Rattle.sets.specs.Sets.{name_slots, held, is_full, PutIn, Holding, Without}
 use Rattle.sets.specs.Known.{section_words, NamesPut}
 use Rattle.sets.proofs.Holding.{put_other, same_start, same_next, holding-start, holding-next, holding-stop, holding-left}
 

@@ -2,6 +2,7 @@
 // the class with some bits of the hash, so that most other names are told apart without reading the file. A name stands in the first
 // slot that was empty from its home on; the slots are not gone round, and every slot up to the last is tried.
 #![tactic(auto)]
+
 ghost use Rattle.std.specs.Prelude.{◌≡◌, ◌∷◌, ◌<◌};
 ghost use Rattle.names.specs.Words.{same, one_of};
 ghost use Rattle.names.specs.Counted.{name_at};

@@ -10,7 +10,7 @@ use lib.ListN.{length, get_or, take, drop, length-take, length-drop}
 use lib.Seq.{get_or-take, get_or-drop}
 use Rattle.fields.specs.Bytes.{pick}
 use Rattle.names.specs.Words.{◌∈◌}
-use Rattle.records.specs.Items.{Kind, plain, temp, divert, tunnel, thread, call, variable, argument, choice, gather, parameter, stitchName, flowStart, code, is, Item, sort_of, nameless, what_of, item_as, item_of}
+use Rattle.records.specs.Items.{Kind, plain, temp, divert, tunnel, thread, call, variable, argument, choice, gather, parameter, stitch_name, flow_start, code, is, Item, sort_of, nameless, what_of, item_as, item_of}
 use Rattle.records.specs.Numbers.{number_of, kept_numbers, item_in}
 use Rattle.records.proofs.Places.{stands-fits}
 use Rattle.story.specs.declared.Sections.{Sections}
@@ -64,8 +64,8 @@ has-name argument payload v z = refl
 has-name choice payload v z = absurd (z refl)
 has-name gather payload v z = refl
 has-name parameter payload v z = refl
-has-name stitchName payload v z = refl
-has-name flowStart payload v z = refl
+has-name stitch_name payload v z = refl
+has-name flow_start payload v z = refl
 
 -- an item of the file
 item-bears : {file : List ℕ} {i : Item} → Standing file i → is plain i.what ≡ false → BearsName file i

@@ -6,7 +6,7 @@ use Prim.Native.Nat.{ℕ}
 use lib.ListN.{get_or}
 use Rattle.fields.specs.Bytes.{pick}
 use Rattle.names.specs.Words.{each}
-use Rattle.records.specs.Items.{Kind, plain, temp, divert, tunnel, thread, call, variable, argument, choice, gather, parameter, stitchName, flowStart, code, What, is}
+use Rattle.records.specs.Items.{Kind, plain, temp, divert, tunnel, thread, call, variable, argument, choice, gather, parameter, stitch_name, flow_start, code, What, is}
 use Rattle.rules.specs.declared.Rule.{Rule}
 use Rattle.rules.specs.declared.Rule.TheVariants.{FunctionDivertedTo, TargetNotFound, FlowCalled, NameIsFunction, NameIsGlobal, TempIsParameter, TempIsLabel, ParameterUnmarked, ParameterAlreadyMarked, GatherRepeated, ChoiceUndiverted, FunctionWithStitches, FunctionWithChoice, FunctionWithDivert, VariableForbidden}
 use Rattle.rules.specs.Rules.{Known, Here, broken}
@@ -72,14 +72,14 @@ module _ (k : Known) (h : Here) (before : List What) where
   not-of-sort TargetNotFound w e = rw (three-none (is divert w) (is tunnel w) (is thread w) e)
   not-of-sort FlowCalled w e = rw (one_none (is call w) e)
   not-of-sort NameIsFunction w e = rw (two_none (is temp w) (is parameter w) e)
-  not-of-sort NameIsGlobal w e = rw (two_none (is parameter w) (is stitchName w) e)
+  not-of-sort NameIsGlobal w e = rw (two_none (is parameter w) (is stitch_name w) e)
   not-of-sort TempIsParameter w e = rw (one_none (is temp w) e)
   not-of-sort TempIsLabel w e = rw (one_none (is temp w) e)
   not-of-sort ParameterUnmarked w e = rw (three-none (is divert w) (is tunnel w) (is thread w) e)
   not-of-sort ParameterAlreadyMarked w e = rw (one_none (is argument w) e)
   not-of-sort GatherRepeated w e = rw (one_none (is gather w) e)
   not-of-sort ChoiceUndiverted w e = rw (one_none (is choice w) e)
-  not-of-sort FunctionWithStitches w e = rw (one_none (is flowStart w) e)
+  not-of-sort FunctionWithStitches w e = rw (one_none (is flow_start w) e)
   not-of-sort FunctionWithChoice w e = one_none (is choice w) e
   not-of-sort FunctionWithDivert w e = rw (one_none (is divert w) e)
   not-of-sort VariableForbidden w e = rw (one_none (is variable w) e)
@@ -137,8 +137,8 @@ lone-looked inner function argument e = ap (λ (l : List (List Rule)). get_or l 
 lone-looked inner function choice e = absurd (e.5 refl)
 lone-looked inner function gather e = ap (λ (l : List (List Rule)). get_or l 9 []) (look-table inner function)
 lone-looked inner function parameter e = ap (λ (l : List (List Rule)). get_or l 10 []) (look-table inner function)
-lone-looked inner function stitchName e = ap (λ (l : List (List Rule)). get_or l 11 []) (look-table inner function)
-lone-looked inner function flowStart e = ap (λ (l : List (List Rule)). get_or l 12 []) (look-table inner function)
+lone-looked inner function stitch_name e = ap (λ (l : List (List Rule)). get_or l 11 []) (look-table inner function)
+lone-looked inner function flow_start e = ap (λ (l : List (List Rule)). get_or l 12 []) (look-table inner function)
 
 module _ (file kept : List ℕ) (at : At) where
   -- no rule

@@ -9,7 +9,7 @@ use lib.Dec.{T}
 use lib.ListN.{length, get_or, drop, length-drop}
 use lib.Seq.{drop-drop, drop-cons, get_or-drop}
 use Rattle.names.specs.Counted.{name_at}
-use Rattle.records.specs.Items.{Kind, code, parameter, stitchName, flowStart, What, Item}
+use Rattle.records.specs.Items.{Kind, code, parameter, stitch_name, flow_start, What, Item}
 use Rattle.story.specs.Story.{Story, Flow}
 use Rattle.story.specs.Flows.{names_n, counted_in}
 use Rattle.story.proofs.Unfolding.{names-n-zero, names-n-none}
@@ -96,12 +96,12 @@ over-one s items step = refl
 pub stitch-name : {file kept list list' : List ℕ} (h : Heading) {r r' : Tally}
     → NameHeard file kept list (record { turn = turn_of h 12 h.tally; sort = 11; place = h.at; named = h.at }) r list' → r' ≡ passed 1 r
     → (s : rules.Scope) → ScopeIs file kept h.story.sections h.scope s
-    → heard r' list' ≡ hear_runs (kept_story h.story.sections file) (heard h.tally list) (over s (name_item stitchName h.at (named file h.at) ∷ []) (s12 ∷ []))
+    → heard r' list' ≡ hear_runs (kept_story h.story.sections file) (heard h.tally list) (over s (name_item stitch_name h.at (named file h.at) ∷ []) (s12 ∷ []))
 unfolding step_at all_ahead looks_ahead
 stitch-name {file} {kept} {list} {list'} h {r} told e s q =
     run_none (kept_story h.story.sections file) s s12 r list' e
-    ∙ sym (ap (hear_runs (kept_story h.story.sections file) (heard h.tally list)) (over-one s (name_item stitchName h.at (named file h.at) ∷ []) s12)
-    ∙ name-after told q stitchName refl s12 refl tt [])
+    ∙ sym (ap (hear_runs (kept_story h.story.sections file) (heard h.tally list)) (over-one s (name_item stitch_name h.at (named file h.at) ∷ []) s12)
+    ∙ name-after told q stitch_name refl s12 refl tt [])
 
 -- 4. Step 6
 
@@ -168,7 +168,7 @@ module _ {file kept : List ℕ} {h : Heading} (s : rules.Scope) (f : Flow) (k : 
       → heard r list' ≡ hear_runs (kept_story h.story.sections file) (heard h.tally list) (over s (purity_items h.function f) (s5 ∷ []))
   unfolding step_at all_ahead looks_ahead over
   purity-function there told rest =
-      rw (there, same.place, same.name, same.body) (rest ∙ sym (name-after told k flowStart refl s5 refl tt (items_at file (body_run kept h.scope))))
+      rw (there, same.place, same.name, same.body) (rest ∙ sym (name-after told k flow_start refl s5 refl tt (items_at file (body_run kept h.scope))))
 
   -- another flow
   pub purity-none : {list : List ℕ} {r : Tally} → h.function ≡ false → r ≡ passed 1 h.tally

@@ -8,7 +8,7 @@ use native.Mathlib.Omega.{arith}
 use lib.Seq.{take_all}
 use Rattle.names.specs.Words.{Bytes, only, each}
 use Rattle.names.specs.Counted.{name_at}
-use Rattle.records.specs.Items.{Kind, plain, temp, divert, tunnel, thread, call, variable, argument, choice, gather, parameter, stitchName, flowStart, code, What}
+use Rattle.records.specs.Items.{Kind, plain, temp, divert, tunnel, thread, call, variable, argument, choice, gather, parameter, stitch_name, flow_start, code, What}
 use Rattle.rules.specs.declared.Rule.{Rule}
 use Rattle.rules.specs.declared.Rule.TheVariants.{FunctionDivertedTo, TargetNotFound, FlowCalled, NameIsFunction, NameIsGlobal, TempIsParameter, TempIsLabel, ParameterUnmarked, ParameterAlreadyMarked, GatherRepeated, ChoiceUndiverted, FunctionWithStitches, FunctionWithChoice, FunctionWithDivert, VariableForbidden}
 use Rattle.rules.specs.Rules.{Known, Here, broken}
@@ -40,8 +40,8 @@ is-choice argument = inr (λ e. omega arith)
 is-choice choice = inl refl
 is-choice gather = inr (λ e. omega arith)
 is-choice parameter = inr (λ e. omega arith)
-is-choice stitchName = inr (λ e. omega arith)
-is-choice flowStart = inr (λ e. omega arith)
+is-choice stitch_name = inr (λ e. omega arith)
+is-choice flow_start = inr (λ e. omega arith)
 
 module _ (k : Known) (h : Here) (before : List What) where
   -- no rule asks for the name of a choice

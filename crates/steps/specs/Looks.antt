@@ -3,7 +3,7 @@
 use Rattle.std.specs.Prelude.{ℕ, ◌≡◌, Bool, true, false, List, [], ◌∷◌, ◌++◌, eqb}
 use Rattle.fields.specs.Bytes.{pick}
 use Rattle.names.specs.Words.{any}
-use Rattle.records.specs.Items.{Kind, temp, divert, tunnel, thread, call, variable, argument, choice, gather, parameter, stitchName, flowStart, code, What, is}
+use Rattle.records.specs.Items.{Kind, temp, divert, tunnel, thread, call, variable, argument, choice, gather, parameter, stitch_name, flow_start, code, What, is}
 use Rattle.rules.specs.declared.Rule.{Rule}
 use Rattle.rules.specs.declared.Rule.TheVariants.{FunctionDivertedTo, TargetNotFound, FlowCalled, NameIsFunction, NameIsGlobal, TempIsParameter, TempIsLabel, ParameterUnmarked, ParameterAlreadyMarked, GatherRepeated, ChoiceUndiverted, FunctionWithStitches, FunctionWithChoice, FunctionWithDivert, VariableForbidden}
 use Rattle.broken.specs.declared.At.{At}
@@ -48,14 +48,14 @@ sorts_of FunctionDivertedTo = divert ∷ tunnel ∷ thread ∷ []
 sorts_of TargetNotFound = divert ∷ tunnel ∷ thread ∷ []
 sorts_of FlowCalled = call ∷ []
 sorts_of NameIsFunction = temp ∷ parameter ∷ []
-sorts_of NameIsGlobal = parameter ∷ stitchName ∷ []
+sorts_of NameIsGlobal = parameter ∷ stitch_name ∷ []
 sorts_of TempIsParameter = temp ∷ []
 sorts_of TempIsLabel = temp ∷ []
 sorts_of ParameterUnmarked = divert ∷ tunnel ∷ thread ∷ []
 sorts_of ParameterAlreadyMarked = argument ∷ []
 sorts_of GatherRepeated = gather ∷ []
 sorts_of ChoiceUndiverted = choice ∷ []
-sorts_of FunctionWithStitches = flowStart ∷ []
+sorts_of FunctionWithStitches = flow_start ∷ []
 sorts_of FunctionWithChoice = choice ∷ []
 sorts_of FunctionWithDivert = divert ∷ []
 sorts_of VariableForbidden = variable ∷ []

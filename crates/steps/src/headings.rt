@@ -1,6 +1,6 @@
 // The steps that visit names: step 12, a stitch's name; step 6, a flow's parameters; step 5, a function's first byte, and then its own list.
 ghost use Rattle.std.specs.Prelude.{◌≡◌, [], ◌∷◌, ◌<◌, length, drop};
-ghost use Rattle.records.specs.Items.{stitchName};
+ghost use Rattle.records.specs.Items.{stitch_name};
 ghost use Rattle.story.specs.Story.{Flow};
 ghost use Rattle.story.specs.Flows.{counted_in};
 ghost use Rattle.items.specs.Bodies.{kept_story};
@@ -117,7 +117,7 @@ pub fn validate_stitch_name(
     h: Heading,
 ) -> Tally
     requires { HeadingReady file.now kept.now names.now targets.now knot.now body.now h }
-    ensures { (s : rules.Scope) → ScopeIs file.now kept.now h.story.sections h.scope s → heard result list.new ≡ hear_runs (kept_story h.story.sections file.now) (heard h.tally list.old) (over s (name_item stitchName h.at (named file.now h.at) ∷ []) (s12 ∷ [])) }
+    ensures { (s : rules.Scope) → ScopeIs file.now kept.now h.story.sections h.scope s → heard result list.new ≡ hear_runs (kept_story h.story.sections file.now) (heard h.tally list.old) (over s (name_item stitch_name h.at (named file.now h.at) ∷ []) (s12 ∷ [])) }
 {
     let tally = h.tally;
     let turn = turn_of(h, 12, tally);

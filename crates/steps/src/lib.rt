@@ -1,5 +1,6 @@
 // What is heard along the runs of a story: breaches one after the other, up to a limit, counted, and written to a lent list.
 #![tactic(auto)]
+
 pub mod bodies;
 pub mod brackets;
 pub mod context;

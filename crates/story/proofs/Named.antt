@@ -19,7 +19,7 @@ use Rattle.names.specs.Counted.{name_at}
 use Rattle.records.specs.Trace.{Record, met, well, ends}
 use Rattle.records.specs.Grammar.{nodes}
 use Rattle.records.proofs.Places.{stands-in-file, lies_within, drop-take}
-use Rattle.records.specs.Items.{Kind, plain, temp, divert, tunnel, thread, call, variable, argument, choice, gather, parameter, stitchName, flowStart, code, Item, name_in, sort_of, name_start, nameless, record_name, labelled, what_of, item_as, item_of, items_in}
+use Rattle.records.specs.Items.{Kind, plain, temp, divert, tunnel, thread, call, variable, argument, choice, gather, parameter, stitch_name, flow_start, code, Item, name_in, sort_of, name_start, nameless, record_name, labelled, what_of, item_as, item_of, items_in}
 use Rattle.story.specs.Story.{Name}
 use Rattle.story.specs.Headings.{reach_at, names_reach, counted_reach}
 use Rattle.story.specs.Flows.{names, names_n, counted_in, part}
@@ -140,8 +140,8 @@ label-nameless argument payload e = refl
 label-nameless choice payload e = rw e
 label-nameless gather payload e = refl
 label-nameless parameter payload e = refl
-label-nameless stitchName payload e = refl
-label-nameless flowStart payload e = refl
+label-nameless stitch_name payload e = refl
+label-nameless flow_start payload e = refl
 
 name-start-small : (sort : Kind) → name_start sort ≤ 1
 unfolding name_start

@@ -13,7 +13,7 @@ use Rattle.records.specs.Trace.{Record}
 use Rattle.story.specs.declared.Sections.{Sections}
 use Rattle.story.specs.declared.HeadingRead.{HeadingRead}
 use Rattle.story.specs.declared.HeadingRead.TheVariants as heading
-use Rattle.records.specs.Items.{Kind, plain, temp, divert, tunnel, thread, call, variable, argument, choice, gather, parameter, stitchName, flowStart, code, What, is, Item, labelled, what_of, item_as, item_of, items_in}
+use Rattle.records.specs.Items.{Kind, plain, temp, divert, tunnel, thread, call, variable, argument, choice, gather, parameter, stitch_name, flow_start, code, What, is, Item, labelled, what_of, item_as, item_of, items_in}
 use Rattle.story.specs.Story.{Name, Stitch, Flow, Story, words}
 use Rattle.story.specs.Headings.{heading_of}
 use Rattle.story.specs.Flows.{part, titled_at, titled_in, stitch_in, title_end, flow_in, flows_in}
@@ -76,8 +76,8 @@ plain-kind w e = by_kind w.kind e
     by_kind choice h = let z : ◌≡◌ {A = ℕ} 0 1 = cc in absurd (omega arith)
     by_kind gather h = let z : ◌≡◌ {A = ℕ} 0 1 = cc in absurd (omega arith)
     by_kind parameter h = let z : ◌≡◌ {A = ℕ} 0 1 = cc in absurd (omega arith)
-    by_kind stitchName h = let z : ◌≡◌ {A = ℕ} 0 1 = cc in absurd (omega arith)
-    by_kind flowStart h = let z : ◌≡◌ {A = ℕ} 0 1 = cc in absurd (omega arith)
+    by_kind stitch_name h = let z : ◌≡◌ {A = ℕ} 0 1 = cc in absurd (omega arith)
+    by_kind flow_start h = let z : ◌≡◌ {A = ℕ} 0 1 = cc in absurd (omega arith)
 
 -- a record as an item
 record-unlabelled : (r : Record) → (item_of r).what.kind ≡ plain → (item_of r).what.labels ≡ false

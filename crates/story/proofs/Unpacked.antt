@@ -17,7 +17,7 @@ use Rattle.records.specs.Trace.{Record, well, ends, met, Ending, refused}
 use Rattle.records.specs.Grammar.{Reading, nodes}
 use Rattle.records.specs.Stands.{Stands}
 use Rattle.records.proofs.Places.{stands-drop, stands-fits, stands-take, Places, nodes-places, met-placed}
-use Rattle.records.specs.Items.{Kind, plain, temp, divert, tunnel, thread, call, variable, argument, choice, gather, parameter, stitchName, flowStart, code, is, Item, node_sorts, cond_sorts, expr_sorts, argument_sorts, sort_of, what_of, item_as, item_of, items_ended, items_in}
+use Rattle.records.specs.Items.{Kind, plain, temp, divert, tunnel, thread, call, variable, argument, choice, gather, parameter, stitch_name, flow_start, code, is, Item, node_sorts, cond_sorts, expr_sorts, argument_sorts, sort_of, what_of, item_as, item_of, items_ended, items_in}
 use Rattle.story.specs.Flows.{part}
 use Rattle.story.specs.Plain.{not_plain}
 use Rattle.records.specs.Numbers.{bit, mark_of, number_of, kept_numbers, place_in, sorts, sort_in, branch_in, labels_in, leaves_in, payload_behind, payload_at, item_in}
@@ -72,8 +72,8 @@ kind-back argument h = refl
 kind-back choice h = refl
 kind-back gather h = refl
 kind-back parameter h = absurd (omega arith)
-kind-back stitchName h = absurd (omega arith)
-kind-back flowStart h = absurd (omega arith)
+kind-back stitch_name h = absurd (omega arith)
+kind-back flow_start h = absurd (omega arith)
 
 bit-back : (b : Bool) → eqb (bit b) 1 ≡ b
 unfolding bit

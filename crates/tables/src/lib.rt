@@ -1,5 +1,6 @@
 // Tables in lent buffers, by which the names of a story are found without going through all of them.
 #![tactic(auto)]
+
 ghost use Rattle.tables.specs.Tables.{Empty};
 
 pub mod functions;

@@ -1,6 +1,7 @@
 // The targets that a story's entries answer, in a set: the dotted ends of their spellings. A slot is 0, or has an end: 1 + the place of its first
 // name, the numbers of the second and the third, 20 bits each, and above that how many dots of the first name come before the end.
 #![tactic(auto)]
+
 ghost use Rattle.std.specs.Prelude.{◌≡◌, [], ◌∷◌, ◌<◌};
 ghost use Rattle.names.specs.Words.{same, one_of};
 ghost use Rattle.sets.specs.Hashes.{hash_of};

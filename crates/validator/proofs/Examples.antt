@@ -17,7 +17,7 @@ use Rattle.names.specs.Counted.{name_at}
 use Rattle.names.specs.Reserved.{builtins}
 use Rattle.records.specs.Trace.{and_then, shift, met, ends}
 use Rattle.records.specs.Grammar.{front_at, ending, repeat_n, repeat, exact, piece_at, named_at, flagged_at, moded, last, or_else, arms, options, tested, branch, body_of, whole, too_deep, record_of, nodes}
-use Rattle.records.specs.Items.{name_in, sort_of, name_start, nameless, record_name, labelled as isLabelled, in_branch, ending_at, ending_n, end_with_divert, spanned, past, unlabelled, second_list, choice_body, leaves, what_of, item_as, item_of, items_ended, items_in}
+use Rattle.records.specs.Items.{name_in, sort_of, name_start, nameless, record_name, labelled as is_labelled, in_branch, ending_at, ending_n, end_with_divert, spanned, past, unlabelled, second_list, choice_body, leaves, what_of, item_as, item_of, items_ended, items_in}
 use Rattle.story.specs.Headings.{reach_at, names_reach, counted_reach, list_at, marks_at, params_at, name_then, heading_of}
 use Rattle.story.specs.Flows.{names, names_then, counted, titled, stitch, flow, flows, names_n, names_in, counted_in, part, titled_at, titled_in, pieces_at, pieces_n, pieces_in, stitch_in, title_end, flow_in, flows_in}
 use Rattle.story.specs.File.{marked, start_at, opened_of, sections_read, read_ended, read_at, read_of, story_in}
@@ -237,7 +237,7 @@ pub record Examples : Type 0 where
   pub each-refusal : map reported refusals ≡ map (λ (r : Row). r.report) refusals
 
 pub examples : Examples
-unfolding reported digit hex row table neighbours headed negated rooted refusal refusals head_of list_of name_of flag_of expr_kind cond_kind node_kind kind_of refusal_number name_at builtins and_then shift met ends front_at ending repeat_n repeat exact piece_at named_at flagged_at moded last or_else arms options tested branch body_of whole too_deep record_of nodes name_in sort_of name_start nameless record_name isLabelled in_branch ending_at ending_n end_with_divert spanned past unlabelled second_list choice_body leaves what_of item_as item_of items_ended items_in reach_at names_reach counted_reach list_at marks_at params_at name_then heading_of names names_then counted titled stitch flow flows names_n names_in counted_in part titled_at titled_in pieces_at pieces_n pieces_in stitch_in title_end flow_in flows_in marked start_at opened_of sections_read read_ended read_at read_of story_in labelled stitch_entries flow_entries entries numbers broken known here over stitch_runs flow_runs runs breaches verdict message judged_of text_of story_report report_at report_of
+unfolding reported digit hex row table neighbours headed negated rooted refusal refusals head_of list_of name_of flag_of expr_kind cond_kind node_kind kind_of refusal_number name_at builtins and_then shift met ends front_at ending repeat_n repeat exact piece_at named_at flagged_at moded last or_else arms options tested branch body_of whole too_deep record_of nodes name_in sort_of name_start nameless record_name is_labelled in_branch ending_at ending_n end_with_divert spanned past unlabelled second_list choice_body leaves what_of item_as item_of items_ended items_in reach_at names_reach counted_reach list_at marks_at params_at name_then heading_of names names_then counted titled stitch flow flows names_n names_in counted_in part titled_at titled_in pieces_at pieces_n pieces_in stitch_in title_end flow_in flows_in marked start_at opened_of sections_read read_ended read_at read_of story_in labelled stitch_entries flow_entries entries numbers broken known here over stitch_runs flow_runs runs breaches verdict message judged_of text_of story_report report_at report_of
 examples = record { p1-to-p10 = refl; beside-them = refl; each-refusal = refl }
 
 -- OF CHECKS: where a check is lent a row's file and buffers of its lengths, it answers and leaves what the row has

@@ -1,5 +1,6 @@
 // The check of a story file: refusals, index, rules and text.
 #![tactic(auto)]
+
 ghost use Rattle.std.specs.Prelude.{◌≤◌, ◌*◌, length};
 ghost use Rattle.story.specs.declared.Opened.TheVariants as Opened;
 ghost use Rattle.story.specs.File.{story_in};

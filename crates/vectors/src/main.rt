@@ -1,6 +1,7 @@
 // Replays checks from standard input, and writes for each its line, its entries, names and index, and whether the rest of the buffers stays.
 // A check is three numbers of two bytes (numbers of the index, bytes of the message buffer, bytes of the file) and the file.
 #![tactic(auto)]
+
 use fields::word;
 use lines::check_line;
 use validator::Answer;

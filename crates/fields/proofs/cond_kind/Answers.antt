@@ -1,7 +1,6 @@
 -- `cond_kind`: each arm is an entry of the table, and past its end there is none. Assumes nothing.
 use mathlib.Core.Path.{sym}
-use Prim.Native.Nat.{zero-le}
-use Rattle.fields.proofs.Laws.{past}
+use native.Mathlib.Omega.{arith}
 use lib.ListN.{get_or-eq_default}
 use Rattle.fields.specs.Kinds.{cond_kind, cond_kinds}
 use Rattle.fields.specs.declared.Kinded.TheVariants.{None}
@@ -21,4 +20,4 @@ returns-in-2 c = rw c.in-2.is
 
 pub returns-in-3-to-255 : goal.returns-in-3-to-255
 unfolding cond_kind
-returns-in-3-to-255 c = let r = c.in-3-to-255.in-3-to-255-own.rest in sym (get_or-eq_default cond_kinds None {n = c.args.kind} (past (past (past zero-le r.0.0.1) r.0.1) r.1))
+returns-in-3-to-255 c = sym (get_or-eq_default cond_kinds None {n = c.args.kind} (omega arith))

@@ -1,7 +1,6 @@
 -- `expr_kind`: each arm is an entry of the table, and past its end there is none. Assumes nothing.
 use mathlib.Core.Path.{sym}
-use Prim.Native.Nat.{zero-le}
-use Rattle.fields.proofs.Laws.{past}
+use native.Mathlib.Omega.{arith}
 use lib.ListN.{get_or-eq_default}
 use Rattle.fields.specs.Kinds.{expr_kind, expr_kinds}
 use Rattle.fields.specs.declared.Kinded.TheVariants.{None}
@@ -37,4 +36,4 @@ returns-in-6 c = rw c.in-6.is
 
 pub returns-in-7-to-255 : goal.returns-in-7-to-255
 unfolding expr_kind
-returns-in-7-to-255 c = let r = c.in-7-to-255.in-7-to-255-own.rest in sym (get_or-eq_default (expr_kinds c.args.inner) None {n = c.args.kind} (past (past (past (past (past (past (past zero-le r.0.0.0.0.0.0.1) r.0.0.0.0.0.1) r.0.0.0.0.1) r.0.0.0.1) r.0.0.1) r.0.1) r.1))
+returns-in-7-to-255 c = sym (get_or-eq_default (expr_kinds c.args.inner) None {n = c.args.kind} (omega arith))

@@ -1,7 +1,6 @@
 -- `node_kind`: each arm is an entry of the table, and past its end there is none. Assumes nothing.
 use mathlib.Core.Path.{sym}
-use Prim.Native.Nat.{zero-le}
-use Rattle.fields.proofs.Laws.{past}
+use native.Mathlib.Omega.{arith}
 use lib.ListN.{get_or-eq_default}
 use Rattle.fields.specs.Kinds.{node_kind, node_kinds}
 use Rattle.fields.specs.declared.Kinded.TheVariants.{None}
@@ -77,4 +76,4 @@ returns-in-16 c = rw c.in-16.is
 
 pub returns-in-17-to-255 : goal.returns-in-17-to-255
 unfolding node_kind
-returns-in-17-to-255 c = let r = c.in-17-to-255.in-17-to-255-own.rest in sym (get_or-eq_default node_kinds None {n = c.args.kind} (past (past (past (past (past (past (past (past (past (past (past (past (past (past (past (past (past zero-le r.0.0.0.0.0.0.0.0.0.0.0.0.0.0.0.0.1) r.0.0.0.0.0.0.0.0.0.0.0.0.0.0.0.1) r.0.0.0.0.0.0.0.0.0.0.0.0.0.0.1) r.0.0.0.0.0.0.0.0.0.0.0.0.0.1) r.0.0.0.0.0.0.0.0.0.0.0.0.1) r.0.0.0.0.0.0.0.0.0.0.0.1) r.0.0.0.0.0.0.0.0.0.0.1) r.0.0.0.0.0.0.0.0.0.1) r.0.0.0.0.0.0.0.0.1) r.0.0.0.0.0.0.0.1) r.0.0.0.0.0.0.1) r.0.0.0.0.0.1) r.0.0.0.0.1) r.0.0.0.1) r.0.0.1) r.0.1) r.1))
+returns-in-17-to-255 c = sym (get_or-eq_default node_kinds None {n = c.args.kind} (omega arith))

@@ -1,5 +1,7 @@
 -- `read_flag`: the tests that led to each answer pick the case of `flag_of`. Assumes nothing.
+use borrow.Author.Rules.{rules}
 use borrow.Author.Tests.{lt-ltb, le-ltb, ne_eqb}
+use lib.ListN.{get_or}
 use Rattle.fields.specs.Bytes.{flag_of}
 use Rattle.fields.proofs.read_flag.Goals as goal
 
@@ -17,4 +19,4 @@ returns-in-1 c = simp (le-ltb _ _ c.if-s-lt1.false, c.in-1.is)
 
 pub returns-in-2-to-255 : goal.returns-in-2-to-255
 unfolding flag_of
-returns-in-2-to-255 c = simp (le-ltb _ _ c.if-s-lt1.false, ne_eqb _ _ c.in-2-to-255.in-2-to-255-own.rest.0.1, ne_eqb _ _ c.in-2-to-255.in-2-to-255-own.rest.1)
+returns-in-2-to-255 c = simp (le-ltb _ _ c.if-s-lt1.false, ne_eqb (get_or c.args.s.now 0 0) 0 (search rules), ne_eqb (get_or c.args.s.now 0 0) 1 (search rules))

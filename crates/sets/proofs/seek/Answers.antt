@@ -1,5 +1,4 @@
 -- `sets::seek` meets its contract. The loop's invariant: the slots from the word's home up to this one have other names. Assumes nothing.
-use Prim.Native.Nat.{◌-◌}
 use native.Mathlib.Omega.{arith}
 use mathlib.Core.List.{◌∷◌}
 use Rattle.sets.specs.Sets.{name_slots}

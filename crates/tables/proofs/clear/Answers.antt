@@ -1,6 +1,5 @@
 -- `tables::clear` meets its contract. The loop's invariant: the slots before i are empty. Assumes nothing.
 use mathlib.Core.Path.{refl}
-use Prim.Native.Nat.{◌-◌}
 use native.Mathlib.Omega.{arith}
 use lib.ListN.{length-set}
 use Rattle.tables.proofs.Tables.{clearing-start, clearing-next, clearing-end}

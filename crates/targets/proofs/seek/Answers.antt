@@ -1,5 +1,4 @@
 -- `targets::seek` meets its contract. The loop's invariant: the slots from the word's home up to this one have other words. Assumes nothing.
-use Prim.Native.Nat.{◌-◌}
 use native.Mathlib.Omega.{arith}
 use Rattle.sets.proofs.Walking.{passed_start, passed-next, ended-vacant, ended-exhausted, ended-found}
 use Rattle.targets.specs.Slots.{end_slots}

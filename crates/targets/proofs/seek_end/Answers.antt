@@ -1,5 +1,4 @@
 -- `targets::seek_end` meets its contract. The loop's invariant: no slot from the home up to this one is empty. Assumes nothing.
-use Prim.Native.Nat.{◌-◌}
 use native.Mathlib.Omega.{arith}
 use mathlib.Core.Path.{◌∙◌, ap}
 use Rattle.targets.specs.Slots.{end_word, end_slots}

@@ -1,5 +1,4 @@
 -- `enumerator::answers::find_entry` meets its contract. The loop's invariant: what is left of the search. Assumes nothing.
-use Prim.Native.Nat.{◌-◌}
 use native.Mathlib.Omega.{arith}
 use Rattle.enumerator.proofs.Searched.{left-start, left_end, left-short, left-found, left-next}
 use Rattle.enumerator.proofs.answers.find_entry.Goals as goal

@@ -2,7 +2,6 @@
 -- they can be read, and their items are kept. Assumes nothing.
 use mathlib.Core.Path.{ap, refl}
 use mathlib.Core.List.{map}
-use Prim.Native.Nat.{◌-◌}
 use native.Mathlib.Omega.{arith}
 use Rattle.story.specs.Plain.{flow_without_plain}
 use Rattle.searches.proofs.Viewed.{flow-laid}
@@ -30,9 +29,14 @@ put_flow-met-requires c =
     let loop = c.loop-v in
     let r = c.requires.range in
     let view = c.flow_view.ensures in
-    let l = flow-laid file loop.at end c.in-View.v view c.in-View.is in record { name_lt_params = (l.name, omega (arith, r.within), record { ordered = l.stitches; within = omega (arith, r.within); short = r.short }); file_value = (flow-readable file loop.at end loop.invariant.1.0 view c.in-View.v c.in-View.is).own; stitches_kept = flow-stitches file _ loop.at end loop.invariant.0.0 r.within r.short loop.invariant.1.0 loop.invariant.1.1 c.in-View.v view c.in-View.is; ready = visiting-ready loop.invariant.2 _ _
-              (flows-next (flows-plain file _ loop.at end loop.invariant.0.0 r.within r.short loop.invariant.1.0 loop.invariant.1.1 c.in-View.v view c.in-View.is))
-              c.requires.ready }
+    let l = flow-laid file loop.at end c.in-View.v view c.in-View.is in record {
+      name_lt_params = (l.name, omega (arith, r.within), record { ordered = l.stitches; within = omega (arith, r.within); short = r.short });
+      file_value = (flow-readable file loop.at end loop.invariant.1.0 view c.in-View.v c.in-View.is).own;
+      stitches_kept = flow-stitches file _ loop.at end loop.invariant.0.0 r.within r.short loop.invariant.1.0 loop.invariant.1.1 c.in-View.v view c.in-View.is;
+      ready = visiting-ready loop.invariant.2 _ _
+          (flows-next (flows-plain file _ loop.at end loop.invariant.0.0 r.within r.short loop.invariant.1.0 loop.invariant.1.1 c.in-View.v view c.in-View.is))
+          c.requires.ready;
+    }
 
 pub items_from-next-requires : goal.items_from-next-requires
 items_from-next-requires c = c.loop-v.invariant.1.1.rising

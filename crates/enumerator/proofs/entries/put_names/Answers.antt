@@ -26,11 +26,10 @@ pub overflow_add-at-in-loop-left : goal.overflow_add-at-in-loop-left
 overflow_add-at-in-loop-left c = omega (arith, c.type_inv.file c.loop-left.at)
 
 pub loop-left-preserved : goal.loop-left-preserved
-loop-left-preserved c =
-    (
-      omega (arith, c.loop-left.invariant.0),
-      visiting-many c.loop-left.invariant.1 (names-on c.args.file.now c.loop-left.left c.loop-left.at c.args.end (omega arith) (omega arith) (omega arith)) c.visit_entry-met.ensures,
-    )
+loop-left-preserved c = (
+  omega (arith, c.loop-left.invariant.0),
+  visiting-many c.loop-left.invariant.1 (names-on c.args.file.now c.loop-left.left c.loop-left.at c.args.end (omega arith) (omega arith) (omega arith)) c.visit_entry-met.ensures,
+)
 
 pub returns : goal.returns
 returns c = visiting-end c.loop-left.invariant.1 (names-asked _ _ _ (omega arith))

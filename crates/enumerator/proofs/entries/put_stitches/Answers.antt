@@ -2,7 +2,6 @@
 -- they can be read, and their items are kept. Assumes nothing.
 use mathlib.Core.Path.{ap, refl}
 use mathlib.Core.List.{List, map}
-use Prim.Native.Nat.{◌-◌}
 use native.Mathlib.Omega.{arith}
 use Rattle.names.specs.Words.{each}
 use Rattle.story.specs.Story.{Stitch}
@@ -33,9 +32,13 @@ put_stitch-met-requires c =
     let loop = c.loop-s in
     let r = c.requires.name_in_bounds.1 in
     let view = c.stitch_view.ensures in
-    let l = stitch-laid file loop.at c.args.v.end c.in-View.s view c.in-View.is in record { name_lt_params = (l.name, omega (arith, r.within), r.short); rising = loop.invariant.1.1.rising; ready = visiting-ready loop.invariant.2 _ _
-            (ap (each (stitch_placed c.args.v.name)) (stitches-plain file _ loop.at c.args.v.end loop.invariant.0.0 r.within r.short loop.invariant.1.0 loop.invariant.1.1 c.in-View.s view c.in-View.is))
-            c.requires.ready }
+    let l = stitch-laid file loop.at c.args.v.end c.in-View.s view c.in-View.is in record {
+      name_lt_params = (l.name, omega (arith, r.within), r.short);
+      rising = loop.invariant.1.1.rising;
+      ready = visiting-ready loop.invariant.2 _ _
+          (ap (each (stitch_placed c.args.v.name)) (stitches-plain file _ loop.at c.args.v.end loop.invariant.0.0 r.within r.short loop.invariant.1.0 loop.invariant.1.1 c.in-View.s view c.in-View.is))
+          c.requires.ready;
+    }
 
 pub items_from-next-requires : goal.items_from-next-requires
 items_from-next-requires c = c.loop-s.invariant.1.1.rising

@@ -1,4 +1,5 @@
 -- `label_bit`: gathers, and choices with a label. Assumes nothing.
+use borrow.Author.Rules.{rules}
 use Rattle.std.proofs.Common.{ne_eqb}
 use Rattle.records.specs.Items.{labelled}
 use Rattle.records.specs.Numbers.{bit}
@@ -18,4 +19,4 @@ returns-in-9 c k e = rw (← e, c.in-9.is)
 
 pub returns-in_default : goal.returns-in_default
 unfolding bit labelled
-returns-in_default c k e = rw (← e, ne_eqb _ 8 c.in_default.in_default-own.rest.0.1, ne_eqb _ 9 c.in_default.in_default-own.rest.1)
+returns-in_default c k e = rw (← e, ne_eqb c.args.sort 8 (search rules), ne_eqb c.args.sort 9 (search rules))

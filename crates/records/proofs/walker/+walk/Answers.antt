@@ -76,13 +76,12 @@ pub assign-returns-in-0-to-3 : goal.assign-returns-in-0-to-3
 assign-returns-in-0-to-3 t c =
     let a = c.args in
     let if1 = c.if-s-lt1 in
-    let if2 = c.in-0-to-3.if-mode-lt4-own in
-    rw (moded-on keeping a.base (st a.out.now a.n) (named (exact 1 (record_of a.left Visited))) a.s.now (omega (arith, if1.false)) (omega (arith, if2.true))) c.set.ensures
+    rw (moded-on keeping a.base (st a.out.now a.n) (named (exact 1 (record_of a.left Visited))) a.s.now (omega (arith, if1.false)) (omega arith)) c.set.ensures
 
 pub assign-returns-in-4-to-255 : goal.assign-returns-in-4-to-255
 assign-returns-in-4-to-255 t c =
     let a = c.args in
-    moded-no keeping a.base (st a.out.now a.n) (named (exact 1 (record_of a.left Visited))) a.s.now (omega (arith, c.if-s-lt1.false)) (omega (arith, c.in-4-to-255.if-mode-lt4-own.false))
+    moded-no keeping a.base (st a.out.now a.n) (named (exact 1 (record_of a.left Visited))) a.s.now (omega (arith, c.if-s-lt1.false)) (omega arith)
 
 pub body-exact-requires : goal.body-exact-requires
 body-exact-requires t c = omega (arith, c.decreases, c.requires)

@@ -1,4 +1,5 @@
 -- `leaves_after`: the kinds that leave, and Newline. Assumes nothing.
+use borrow.Author.Rules.{rules}
 use Rattle.std.proofs.Common.{ne_eqb}
 use Rattle.records.proofs.walker.leaves_after.Goals as goal
 
@@ -21,5 +22,4 @@ pub returns-in-12 : goal.returns-in-12
 returns-in-12 c = rw c.in-12.is
 
 pub returns-in_default : goal.returns-in_default
-returns-in_default c = let r = c.in_default.in_default-own.rest in
-    rw (ne_eqb _ 1 r.0.0.0.0.0.1, ne_eqb _ 3 r.0.0.0.0.1, ne_eqb _ 6 r.0.0.0.1, ne_eqb _ 7 r.0.0.1, ne_eqb _ 11 r.0.1, ne_eqb _ 12 r.1)
+returns-in_default c = rw (ne_eqb c.args.kind 1 (search rules), ne_eqb c.args.kind 3 (search rules), ne_eqb c.args.kind 6 (search rules), ne_eqb c.args.kind 7 (search rules), ne_eqb c.args.kind 11 (search rules), ne_eqb c.args.kind 12 (search rules))

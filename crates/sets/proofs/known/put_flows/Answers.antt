@@ -1,6 +1,5 @@
 -- `sets::known::put_flows` meets its contract. The loop's invariant: the set holds the names of the flows before `at`. Assumes nothing.
 use mathlib.Core.Path.{refl}
-use Prim.Native.Nat.{◌-◌}
 use native.Mathlib.Omega.{arith}
 use Rattle.searches.proofs.Viewed.{flow-viewed, flow-laid}
 use Rattle.sets.proofs.Flows.{flows-start, flows-next, flows-stop}

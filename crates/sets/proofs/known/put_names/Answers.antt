@@ -1,6 +1,5 @@
 -- `sets::known::put_names` meets its contract. The loop's invariant: the set holds the names before `at` in the class. Assumes nothing.
 use mathlib.Core.Path.{refl}
-use Prim.Native.Nat.{◌-◌}
 use native.Mathlib.Omega.{arith}
 use Rattle.sets.proofs.Sections.{names-start, names-next, names-full}
 use Rattle.sets.proofs.known.put_names.Goals as goal

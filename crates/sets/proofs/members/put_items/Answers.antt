@@ -1,6 +1,5 @@
 -- `sets::members::put_items` meets its contract. The loop's invariant: the names of the first i items were put. Assumes nothing.
 use mathlib.Core.Path.{refl}
-use Prim.Native.Nat.{◌-◌}
 use native.Mathlib.Omega.{arith}
 use Rattle.sets.proofs.Passing.{put-start, put_on, put-end}
 use Rattle.sets.proofs.members.put_items.Goals as goal

@@ -1,7 +1,6 @@
 -- `symbols::entries::collect_labels_from_nodes` meets its contract. The loop's invariant: what is left to be stored are the labels
 -- from item number `i` on. Assumes nothing.
 use mathlib.Core.Path.{refl}
-use Prim.Native.Nat.{◌-◌}
 use native.Mathlib.Omega.{arith}
 use Rattle.symbols.proofs.Stored.{storing-start, storing-end, storing-many}
 use Rattle.symbols.proofs.Labels.{labels_next, labels-end}

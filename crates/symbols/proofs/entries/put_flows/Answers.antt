@@ -2,7 +2,6 @@
 -- they can be read, and their items are kept. Assumes nothing.
 use mathlib.Core.Path.{ap, refl}
 use mathlib.Core.List.{map}
-use Prim.Native.Nat.{◌-◌}
 use native.Mathlib.Omega.{arith}
 use Rattle.story.specs.Plain.{flow_without_plain}
 use Rattle.searches.proofs.Viewed.{flow-laid}

@@ -2,7 +2,6 @@
 -- they can be read, and their items are kept. Assumes nothing.
 use mathlib.Core.Path.{ap, refl}
 use mathlib.Core.List.{List, map}
-use Prim.Native.Nat.{◌-◌}
 use native.Mathlib.Omega.{arith}
 use Rattle.names.specs.Words.{each}
 use Rattle.story.specs.Story.{Stitch}

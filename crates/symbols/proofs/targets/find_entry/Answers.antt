@@ -1,5 +1,4 @@
 -- `symbols::targets::find_entry` meets its contract. The loop's invariant: what is left of the search. Assumes nothing.
-use Prim.Native.Nat.{◌-◌}
 use native.Mathlib.Omega.{arith}
 use Rattle.symbols.proofs.Searched.{left-start, left_end, left-short, left-found, left-next}
 use Rattle.symbols.proofs.targets.find_entry.Goals as goal

@@ -1,9 +1,7 @@
 -- `tables::functions::put_functions` meets its contract. The loop's invariant: the table has the flows before `at`, and those from it
 -- on can be read. Assumes nothing.
 use mathlib.Core.Path.{refl}
-use Prim.Native.Nat.{◌-◌}
 use native.Mathlib.Omega.{arith}
-use Rattle.story.specs.Flows.{flows}
 use Rattle.story.proofs.Readable.{readable}
 use Rattle.searches.proofs.Viewed.{flow-viewed, flow-laid}
 use Rattle.searches.proofs.Readable.{no_flow, flow-readable}

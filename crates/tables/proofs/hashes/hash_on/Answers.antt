@@ -1,5 +1,4 @@
 -- `tables::hashes::hash_on` meets its contract. The loop's invariant: what is left of the word goes on from the hash. Assumes nothing.
-use Prim.Native.Nat.{◌-◌}
 use native.Mathlib.Omega.{arith}
 use Rattle.tables.proofs.Hashing.{hashing-start, hashing-next, hashing-end}
 use Rattle.tables.proofs.hashes.hash_on.Goals as goal

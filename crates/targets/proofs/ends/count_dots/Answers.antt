@@ -1,7 +1,5 @@
 -- `targets::ends::count_dots` meets its contract. The loop's invariant: so many dots stand before `i`. Assumes nothing.
-use Prim.Native.Nat.{◌-◌}
 use native.Mathlib.Omega.{arith}
-use mathlib.Core.Logic.{⊎_elim}
 use Rattle.targets.proofs.Dotted.{dots-start, dots-dot, dots-other, dots-end}
 use Rattle.targets.proofs.ends.count_dots.Goals as goal
 use Rattle.targets.proofs.ends.count_dots.Goals.{then-word-i-eq46, else-word-i-eq46}
@@ -16,7 +14,7 @@ pub loop-i-preserved : goal.loop-i-preserved
 loop-i-preserved c =
     let inv = c.loop-i.invariant in
     elim c.if-word-i-eq46.branch [
-      then-word-i-eq46 w ↦ rw w.count-is (dots-dot inv (omega arith) w.if-word-i-eq46.true)
+      | then-word-i-eq46 w ↦ rw w.count-is (dots-dot inv (omega arith) w.if-word-i-eq46.true)
       | else-word-i-eq46 w ↦ rw w.count-is (dots-other inv (omega arith) w.if-word-i-eq46.false)
     ]
 

@@ -1,5 +1,4 @@
 -- `targets::ends::end_of` meets its contract. The loop's invariant: what follows the dots of the word follows those left of the rest. Assumes nothing.
-use mathlib.Core.Logic.{⊎_elim}
 use native.Mathlib.Omega.{arith}
 use Rattle.targets.proofs.Dotted.{passing-start, passing-end, passing-short, passing-dot, passing-other, cut-shorter}
 use Rattle.targets.proofs.ends.end_of.Goals as goal
@@ -18,7 +17,7 @@ pub loop-left-preserved : goal.loop-left-preserved
 loop-left-preserved c =
     let inv = c.loop-left.invariant in
     elim c.if-rest-eq46.branch [
-      then-rest-eq46 w ↦ rw w.left-is (passing-dot inv c.if-rest-eq0.false (omega arith) w.if-rest-eq46.true)
+      | then-rest-eq46 w ↦ rw w.left-is (passing-dot inv c.if-rest-eq0.false (omega arith) w.if-rest-eq46.true)
       | else-rest-eq46 w ↦ rw w.left-is (passing-other inv c.if-rest-eq0.false (omega arith) w.if-rest-eq46.false)
     ]
 

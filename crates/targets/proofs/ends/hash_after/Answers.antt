@@ -6,8 +6,7 @@ pub returns-then-number-eq0 : goal.returns-then-number-eq0
 returns-then-number-eq0 c = (hash-none c.args.file.now c.args.start c.if-number-eq0.true, c.requires)
 
 pub returns : goal.returns
-returns c =
-    (
-      hash-some c.args.file.now c.args.start c.args.number c.if-number-eq0.false c.hash_on-hash.ensures.0 c.name_at.ensures c.hash_on.ensures.0,
-      c.hash_on.ensures.1,
-    )
+returns c = (
+  hash-some c.args.file.now c.args.start c.args.number c.if-number-eq0.false c.hash_on-hash.ensures.0 c.name_at.ensures c.hash_on.ensures.0,
+  c.hash_on.ensures.1,
+)

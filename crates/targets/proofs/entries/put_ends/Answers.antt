@@ -1,6 +1,5 @@
 -- `targets::entries::put_ends` meets its contract. The loop's invariant: the ends before the number `d` were put. Assumes nothing.
 use mathlib.Core.Path.{refl}
-use Prim.Native.Nat.{◌-◌}
 use native.Mathlib.Omega.{arith}
 use Rattle.targets.proofs.Gaining.{ends-start, ends_next, ends-stop, ends-many, ends-end}
 use Rattle.targets.proofs.entries.put_ends.Goals as goal
