@@ -177,7 +177,7 @@ fn method() -> String {
         "\
 ## How it was measured
 
-- Both are built for release: the original by `cargo build --release` (opt-level 3) as part of the bench program, this check as the archive that `rt staticlib qaabireed` writes, called through the Rust crate.
+- Both are built for release: the original by `cargo build --release` (opt-level 3) as part of the bench program, this check as the archive that `tools/archive` writes, called through the Rust crate.
 - **Tree**: `validate` on the parsed story in memory. **Bytes**: the tree is decoded from the file, validated and dropped. **This check**: `check` on the file's bytes, which reads and judges them, writes the index and, on a breach, the message.
 - The decoder does nothing but decode: it goes through the file once, refuses what cannot be read, and builds the original's tree with its names as strings. It is `decode_only` of `differential/`, the same code that notes the places of all fields for the comparison there, compiled without the notes.
 - In the rows called lookup one target is looked up. **Tree** and **bytes** are then what the original does for that: `ValidationContext::build` on its tree and `check_target`; in the place of this check stands `lookup` on the file's bytes, which reads the whole file and writes the index.

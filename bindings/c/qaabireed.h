@@ -1,7 +1,7 @@
 /*
  * Qaabireed: a validator for Ink stories of which every function is proved.
  *
- * Link libqaabireed.a, which `rt staticlib qaabireed` writes to target/staticlib/. It needs
+ * Link libqaabireed.a, which `tools/archive` writes to target/staticlib/. It needs
  * nothing but the C library, keeps no state, takes no memory from the heap and holds no pointer
  * after a call, so that calls with different buffers may run at the same time. Every file that was
  * tried took less than 1.75 MiB of stack (docs/DECISIONS.md, Stack).

@@ -1,6 +1,5 @@
 //! Finds the proved archive libqaabireed.a, or has the toolchain build it.
 
-use std::io::ErrorKind;
 use std::path::{Path, PathBuf};
 use std::process::{Command, Stdio};
 
@@ -9,6 +8,9 @@ const ARCHIVE: &str = "libqaabireed.a";
 
 /// The repository's root, from this folder; a relative folder is taken from there.
 const ROOT: &str = "../..";
+
+/// The exit status of a script that does not find a command.
+const NO_COMMAND: i32 = 127;
 
 /// Links the archive, or fails with one readable line.
 fn main() {
@@ -38,7 +40,7 @@ fn archive_folder() -> Result<PathBuf, String> {
         return Ok(folder);
     }
     build_archive()?;
-    with_archive(built).ok_or(format!("`rt staticlib qaabireed` wrote no {ARCHIVE}"))
+    with_archive(built).ok_or(format!("`tools/archive` wrote no {ARCHIVE}"))
 }
 
 /// The folder as a full path, if it has the archive.
@@ -47,24 +49,22 @@ fn with_archive(folder: PathBuf) -> Option<PathBuf> {
     folder.join(ARCHIVE).is_file().then_some(folder)
 }
 
-/// Runs `rt staticlib qaabireed` in the repository's root.
+/// Runs `tools/archive` of the repository.
 fn build_archive() -> Result<(), String> {
-    let run = Command::new("rt")
-        .args(["staticlib", "qaabireed"])
-        .current_dir(ROOT)
+    let run = Command::new(Path::new(ROOT).join("tools/archive"))
         .stdin(Stdio::null())
         .output();
     match run {
         Ok(output) if output.status.success() => Ok(()),
+        Ok(output) if output.status.code() == Some(NO_COMMAND) => Err(format!(
+            "{ARCHIVE} is absent and so is Rattle's command `rt`, which builds it: install the toolchain, or set QAABIREED_LIB_DIR to a folder that has {ARCHIVE}"
+        )),
         Ok(output) => Err(format!(
-            "`rt staticlib qaabireed` in the repository's root ended with {}: {}",
+            "`tools/archive` ended with {}: {}",
             output.status,
             last_line(&output.stdout, &output.stderr)
         )),
-        Err(error) if error.kind() == ErrorKind::NotFound => Err(format!(
-            "{ARCHIVE} is absent and so is Rattle's command `rt`, which builds it: install the toolchain, or set QAABIREED_LIB_DIR to a folder that has {ARCHIVE}"
-        )),
-        Err(error) => Err(format!("`rt staticlib qaabireed` did not start: {error}")),
+        Err(error) => Err(format!("`tools/archive` did not start: {error}")),
     }
 }
 

@@ -13,7 +13,7 @@ const RULES: u8 = 15;
 /// The program; without one the tests fail, since they would show nothing.
 fn program() -> Program {
     let found = Program::find().unwrap();
-    found.expect("no program: `rt check ink_check` builds it, or INK_CHECK names one")
+    found.expect("no program: `tools/program` builds it, or INK_CHECK names one")
 }
 
 /// The stored checks of a kind, `vector` or `call`.
