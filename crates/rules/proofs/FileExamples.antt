@@ -1,12 +1,9 @@
 -- Files of bytes, read and judged: P2's, the same with a target of kind 7, which is not checked, and files alike in all but order.
 -- They meet what the theorems on files and on stories ask. Assumes nothing.
-use mathlib.Core.Path.{◌≡◌, refl, sym, ◌∙◌, ap}
+use mathlib.Core.Path.{◌≡◌, refl}
 use mathlib.Core.List.{List, [], ◌∷◌, ◌++◌}
-use mathlib.Core.Logic.{◌↔◌, inl}
 use mathlib.Core.Option.{Option, none, some}
 use Prim.Native.Nat.{ℕ, ◌+◌}
-use native.Mathlib.Omega.{arith}
-use lib.Dec.{lit<}
 use lib.ListN.{length}
 use Rattle.fields.specs.Bytes.{head_of, list_of, name_of, flag_of}
 use Rattle.fields.specs.Kinds.{node_kind, kind_of}
@@ -17,33 +14,21 @@ use Rattle.records.specs.Items.{name_in, sort_of, name_start, nameless, record_n
 use Rattle.story.specs.Headings.{reach_at, names_reach, counted_reach, list_at, marks_at, params_at, name_then, heading_of}
 use Rattle.story.specs.Flows.{names, names_then, counted, titled, stitch, flow, flows, names_n, names_in, counted_in, part, titled_at, titled_in, pieces_at, pieces_n, pieces_in, stitch_in, title_end, flow_in, flows_in}
 use Rattle.story.specs.File.{marked, start_at, sections_of, opened_of, sections_read, read_ended, read_at, read_of, story_in}
-use Rattle.names.specs.Words.{Sorted}
 use Rattle.names.specs.Reserved.{builtins}
-use Rattle.names.specs.Counted.{name_at}
 use Rattle.symbols.specs.Index as index
 use Rattle.symbols.specs.Numbers.{absent}
 use Rattle.rules.specs.declared.Rule.TheVariants.{TargetNotFound}
 use Rattle.rules.specs.Rules.{broken, known, here, number}
 use Rattle.rules.specs.Steps.{over, stitch_runs, flow_runs, runs, Breach, breaches, verdict}
-use Rattle.rules.specs.Meaning.{Stands}
-use Rattle.rules.specs.Placed.{Placed}
-use Rattle.rules.specs.Alike.{Alike, AlikeShuffled}
+use Rattle.rules.specs.Alike.{AlikeShuffled}
 use Rattle.rules.specs.Files.{AlikeFlowBytes, AlikeFiles}
 use Rattle.rules.specs.Reader.{Readable, story_at, story_of, flow_parts, flow_bytes, parts_in, parts_at, parts_of}
 use Rattle.rules.proofs.Paired.{paired-swapped, often-swapped}
-use Rattle.rules.proofs.Placed.{ordered}
-use Rattle.rules.proofs.Least.{Least, once}
-use Rattle.rules.proofs.Order.{shuffle_law}
-use Rattle.rules.proofs.Demand.{demand3}
-use Rattle.rules.proofs.Files.{file-alike}
-use Rattle.rules.proofs.Reader.{supplied}
-use Rattle.rules.proofs.FileDemand.{file-demand3}
-use Rattle.rules.proofs.NamesInFile.{verdict-names}
 
 -- 1. THE FILES
 
 -- a root with one record of the kind, a name x its payload; starts 0, 0, 0, 7; and the mark
-file : ℕ → List ℕ
+unfoldable pub file : ℕ → List ℕ
 file kind = kind ∷ 2 ∷ 0 ∷ 0 ∷ 0 ∷ 1 ∷ 120 ∷ 0 ∷ 0 ∷ 0 ∷ 0 ∷ 0 ∷ 0 ∷ 0 ∷ 0 ∷ 0 ∷ 0 ∷ 0 ∷ 0 ∷ 7 ∷ 0 ∷ 0 ∷ 0 ∷ 73 ∷ 75 ∷ 1 ∷ 0 ∷ []
 
 -- the sections of such a file
@@ -84,53 +69,53 @@ file_of globals externals root flows =
     ++ number32 0 ++ number32 externals_at ++ number32 root_at ++ number32 flows_at ++ (73 ∷ 75 ∷ 1 ∷ 0 ∷ [])
 
 -- globals a, b; externals c, d; the root's divert to x; knot k with stitches s, which diverts to t, and t; knot m
-in_order : ℕ → List ℕ
+pub in_order : ℕ → List ℕ
 in_order x =
     file_of (letter 97 ++ letter 98) (letter 99 ++ letter 100) (divert_to x)
     (knot_named 107 [] (stitch_named 115 (divert_to 116) ++ stitch_named 116 []) ++ knot_named 109 [] [])
 
 -- the same with globals, externals, knots and stitches exchanged
-exchanged : ℕ → List ℕ
+pub exchanged : ℕ → List ℕ
 exchanged x =
     file_of (letter 98 ++ letter 97) (letter 100 ++ letter 99) (divert_to x)
     (knot_named 109 [] [] ++ knot_named 107 [] (stitch_named 116 [] ++ stitch_named 115 (divert_to 116)))
 
 -- the root, knot k and its stitch s, each of them with a divert to x and a divert to y
-two_diverts : ℕ → ℕ → List ℕ
+pub two_diverts : ℕ → ℕ → List ℕ
 two_diverts x y = file_of [] [] (divert_to x ++ divert_to y) (knot_named 107 (divert_to x ++ divert_to y) (stitch_named 115 (divert_to x ++ divert_to y)))
 
 -- 2. READ AND JUDGED
 
 -- the rule that a verdict names, 0 where accepted
-abbrev rule_of : Option Breach → ℕ
+abbrev pub rule_of : Option Breach → ℕ
 rule_of none = 0
 rule_of (some b) = number b.rule
 
 -- read, and judged: the rule that the verdict names, 0 where accepted
-record Judged (file : List ℕ) (rule : ℕ) : Type 0 where
-  readable : Readable file
-  judged : rule_of (verdict (story_of file)) ≡ rule
+pub record Judged (file : List ℕ) (rule : ℕ) : Type 0 where
+  pub readable : Readable file
+  pub judged : rule_of (verdict (story_of file)) ≡ rule
 
 -- rule 2 in step 2, at the place 0, with the name at the place 5
-abbrev not_found : Breach
+abbrev pub not_found : Breach
 not_found = record { instance = 1; rule = TargetNotFound; place = 0; names = (5, absent) }
 
-record Examples : Type 0 where
+pub record Examples : Type 0 where
   -- the example with kind 3, and with kind 7 in its place
-  target-missing : Judged (file 3) 2
-  onward-unchecked : Judged (file 7) 0
+  pub target-missing : Judged (file 3) 2
+  pub onward-unchecked : Judged (file 7) 0
   -- the first one's breach
-  missing : verdict (story_of (file 3)) ≡ some not_found
+  pub missing : verdict (story_of (file 3)) ≡ some not_found
   -- the two files are readable and alike, whatever x is; the first is accepted where x is t, and in breach of rule 2 where it is x
-  first : (x : ℕ) → Readable (in_order x)
-  second : (x : ℕ) → Readable (exchanged x)
-  alike : (x : ℕ) → AlikeFiles (parts_of (in_order x)) (parts_of (exchanged x))
-  accepted : verdict (story_of (in_order 116)) ≡ none
-  in-breach : rule_of (verdict (story_of (in_order 120))) ≡ 2
+  pub first : (x : ℕ) → Readable (in_order x)
+  pub second : (x : ℕ) → Readable (exchanged x)
+  pub alike : (x : ℕ) → AlikeFiles (parts_of (in_order x)) (parts_of (exchanged x))
+  pub accepted : verdict (story_of (in_order 116)) ≡ none
+  pub in-breach : rule_of (verdict (story_of (in_order 120))) ≡ 2
   -- the two diverts of each body exchanged
-  shuffled : (x y : ℕ) → AlikeShuffled (story_of (two_diverts x y)) (story_of (two_diverts y x))
+  pub shuffled : (x y : ℕ) → AlikeShuffled (story_of (two_diverts x y)) (story_of (two_diverts y x))
 
-examples : Examples
+pub examples : Examples
 unfolding file in_order exchanged two_diverts read_of read_at opened_of marked start_at sections_read read_ended names names_then counted piece_at titled stitch flow flows nodes part repeat repeat_n front_at named_at flagged_at ending head_of list_of name_of flag_of kind_of node_kind body_of whole record_of and_then shift ends story_of story_at story_in names_n names_in counted_in flows_in pieces_in pieces_n pieces_at flow_in stitch_in title_end titled_in titled_at heading_of name_then params_at marks_at list_at counted_reach names_reach reach_at items_in items_ended met item_of item_as what_of sort_of name_in name_start nameless record_name labelled in_branch leaves parts_of parts_at parts_in flow_bytes flow_parts index.labelled index.stitch_entries index.flow_entries index.entries over stitch_runs flow_runs runs breaches verdict known here broken builtins
 examples = record {
   target-missing = record { readable = record { sections = sections; told = refl }; judged = refl };
@@ -168,45 +153,4 @@ examples = record {
       refl,
     );
   };
-}
-
--- 3. WHAT THE THEOREMS SAY OF THEM
-
--- the order law of files: the second too is accepted where x is t, and in breach where it is x
-by-order-law : (x : ℕ) → (verdict (story_of (in_order x)) ≡ none) ↔ (verdict (story_of (exchanged x)) ≡ none)
-by-order-law x = file-demand3.order-law-of-files (in_order x) (exchanged x) (examples.first x) (examples.second x) (examples.alike x)
-
-accepted-too : verdict (story_of (exchanged 116)) ≡ none
-accepted-too = (by-order-law 116).0 examples.accepted
-
-in-breach-too : verdict (story_of (exchanged 120)) ≡ none → ⊥
-in-breach-too e = let z : ◌≡◌ {A = ℕ} 0 2 = sym (ap rule_of ((by-order-law 120).1 e)) ∙ examples.in-breach in omega arith
-
--- the name that broke rule 2 is the file's at the place 5: x
-offending : (s : Stands (story_of (file 3)) not_found) × (s.item.what.name ≡ 120 ∷ [])
-unfolding file name_at
-offending =
-    let n = verdict-names (file 3) examples.target-missing.readable not_found examples.missing in
-    (n.0, sym (n.1.the_own (inl (rw (← n.0.the_rule) (lit< tt)))))
-
--- what `demand3` asks of stories: places rise, and two are alike
-placed : (x : ℕ) → Placed (story_of (in_order x))
-placed x = supplied.placed (in_order x) (examples.first x)
-
-alike-stories : (x : ℕ) → Alike (story_of (in_order x)) (story_of (exchanged x))
-alike-stories x = file-alike supplied (in_order x) (exchanged x) (examples.first x) (examples.second x) (examples.alike x)
-
--- what is so by the theorems on stories
-record OfStories : Type 0 where
-  verdicts : (x : ℕ) → Least (story_of (in_order x))
-  order : (x : ℕ) → (verdict (story_of (in_order x)) ≡ none) ↔ (verdict (story_of (exchanged x)) ≡ none)
-  shuffled : (x y : ℕ) → (verdict (story_of (two_diverts x y)) ≡ none) ↔ (verdict (story_of (two_diverts y x)) ≡ none)
-  once-listed : (x : ℕ) → Sorted (λ (b c : Breach). b ≡ c → ⊥) (breaches (story_of (in_order x)))
-
-of-stories : OfStories
-of-stories = record {
-  verdicts = λ x. demand3.verdicts (story_of (in_order x)) (placed x);
-  order = λ x. demand3.order (story_of (in_order x)) (story_of (exchanged x)) (alike-stories x);
-  shuffled = λ x y. shuffle_law (story_of (two_diverts x y)) (story_of (two_diverts y x)) (examples.shuffled x y);
-  once-listed = λ x. once (story_of (in_order x)) (ordered (story_of (in_order x)) (placed x));
 }

@@ -23,3 +23,4 @@ pub mod FileDemand
 pub mod NamesInFile
 pub mod Examples
 pub mod FileExamples
+pub mod FileTheorems
