@@ -1,17 +1,16 @@
 -- Items of a sort that bear a name, searched in a run of items, as the rules ask for them. Assumes nothing.
-use mathlib.Core.Path.{◌≡◌, refl, sym, ◌∙◌, ap}
+use mathlib.Core.Path.{◌≡◌, refl, ap}
 use mathlib.Core.Bool.{Bool}
-use mathlib.Core.List.{List, [], ◌∷◌, map}
-use Prim.Native.Nat.{ℕ, zero, suc, ◌-◌, ◌≤◌}
+use mathlib.Core.List.{List, [], ◌∷◌}
+use Prim.Native.Nat.{ℕ, zero, suc, ◌-◌}
 use native.Mathlib.Omega.{arith}
-use lib.ListN.{length, take, drop, length-take}
+use lib.ListN.{length, take, drop}
 use lib.Seq.{take_all}
 use Rattle.names.specs.Words.{Bytes}
-use Rattle.records.specs.Items.{What, Item}
+use Rattle.records.specs.Items.{What}
 use Rattle.records.specs.Numbers.{item_in}
 use Rattle.story.specs.Story.{whats}
 use Rattle.story.specs.Flows.{part}
-use Rattle.items.specs.declared.named.Sought.{Sought}
 use Rattle.items.specs.declared.named.Sought.TheVariants as sought
 use Rattle.items.specs.Bodies.{items_at}
 use Rattle.items.specs.Search.{label_in, temp_in, gather_among, of_sort, bears, found_among}

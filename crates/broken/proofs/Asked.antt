@@ -3,7 +3,6 @@ use mathlib.Core.Path.{◌≡◌, refl, sym, ◌∙◌}
 use mathlib.Core.Bool.{Bool, true, false, ◌||◌, or-true}
 use mathlib.Core.List.{List, [], ◌∷◌, map}
 use Prim.Native.Nat.{ℕ}
-use lib.Dec.{T}
 use Rattle.names.specs.Words.{Bytes, same, any, one_of, ends}
 use Rattle.names.specs.Reserved.{END, DONE, back}
 use Rattle.names.proofs.Bools.{or-found}

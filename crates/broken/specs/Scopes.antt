@@ -1,5 +1,5 @@
 -- Inner contract. The names where a step runs, by the numbers that the code has of it; and what holds of the story and its sets while rules are tested.
-use Rattle.std.specs.Prelude.{ℕ, ◌≤◌, ◌≡◌, Bool, not, ◌&&◌, ◌||◌, List, length, take, drop}
+use Rattle.std.specs.Prelude.{ℕ, ◌≤◌, Bool, not, ◌&&◌, ◌||◌, List, length, take, drop}
 use Rattle.names.specs.Words.{Bytes, one_of}
 use Rattle.records.specs.Items.{What}
 use Rattle.story.specs.Story.{words, whats}

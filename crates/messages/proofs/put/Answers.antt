@@ -1,5 +1,4 @@
 -- `messages::put` meets its contract. The loop's invariant: the first i bytes of the piece are copied. Assumes nothing.
-use Prim.Native.Nat.{◌-◌}
 use native.Mathlib.Omega.{arith}
 use Rattle.messages.proofs.Wrote.{copy_start, copy-next, copy-end}
 use Rattle.messages.proofs.put.Goals as goal

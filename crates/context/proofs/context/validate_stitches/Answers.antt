@@ -1,6 +1,5 @@
 -- `validate_stitches`. The loop's invariant: nothing is found before the stitches from the place on, which can be read and are kept. Assumes nothing.
 use mathlib.Core.Path.{refl, ◌∙◌}
-use Prim.Native.Nat.{◌-◌}
 use native.Mathlib.Omega.{arith}
 use Rattle.checks.proofs.Stitches.{stitches-after, stitches-fewer}
 use Rattle.context.proofs.Places.{no-stitches, stitch-seen-ready, stitches-first, stitches-rest}

@@ -1,9 +1,8 @@
 -- `is_body_clear`. The loop's invariant: nothing is broken before item i, and the filter has the gathers before it. Assumes nothing.
-use Prim.Native.Nat.{◌-◌}
 use native.Mathlib.Omega.{arith}
 use Rattle.filters.proofs.Bodies.{gathered-start, gathered_next}
 use Rattle.context.proofs.Walks.{run-item, run_end}
-use Rattle.context.proofs.Clear.{unbroken-start, unbroken-end, unbroken-next, unbroken-broken, not_taken, not_left}
+use Rattle.context.proofs.Clear.{unbroken-start, unbroken-end, unbroken-next, unbroken-broken}
 use Rattle.context.proofs.passes.is_body_clear.Goals as goal
 
 pub body_items-items-requires : goal.body_items-items-requires

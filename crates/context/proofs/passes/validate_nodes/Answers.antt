@@ -1,6 +1,5 @@
 -- `validate_nodes`. The loop's invariant: nothing is found before item i. Assumes nothing.
 use mathlib.Core.Path.{refl}
-use Prim.Native.Nat.{◌-◌}
 use native.Mathlib.Omega.{arith}
 use Rattle.filters.proofs.Bodies.{gathered_none}
 use Rattle.context.proofs.Walks.{run-item, run_end, clean-start, clean_end, clean-next, clean_found}

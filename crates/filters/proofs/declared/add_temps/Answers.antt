@@ -1,5 +1,4 @@
 -- `add_temps`. The loop's invariant: what is left to be added are the temps from item number `i` on. Assumes nothing.
-use Prim.Native.Nat.{◌-◌}
 use native.Mathlib.Omega.{arith}
 use Rattle.filters.proofs.Adding.{items-start, items-end, items-next}
 use Rattle.filters.proofs.declared.add_temps.Goals as goal

@@ -1,5 +1,4 @@
 -- `add_labels`. The loop's invariant: what is left to be added are the labels from item number `i` on. Assumes nothing.
-use Prim.Native.Nat.{◌-◌}
 use native.Mathlib.Omega.{arith}
 use Rattle.filters.proofs.Adding.{items-start, items-end, items-next}
 use Rattle.filters.proofs.labels.add_labels.Goals as goal

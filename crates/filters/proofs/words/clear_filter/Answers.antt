@@ -1,5 +1,4 @@
 -- `clear_filter`. The loop's invariant: the bytes before `i` are 0. Assumes nothing.
-use Prim.Native.Nat.{◌-◌}
 use native.Mathlib.Omega.{arith}
 use lib.ListN.{length-set}
 use Rattle.records.proofs.Clearing.{cleared-start, cleared-next, cleared-end}
