@@ -1,19 +1,18 @@
 -- Only rule 10 looks at what stands before an item: other steps find the same whatever stands there. Assumes nothing.
-use mathlib.Core.Path.{◌≡◌, refl, sym, ap, ◌∙◌}
+use mathlib.Core.Path.{◌≡◌, refl, ap, ◌∙◌}
 use Prim.Native.Nat.{ℕ}
 use native.Mathlib.Omega.{arith}
 use lib.Dec.{T}
 use Rattle.names.proofs.Bools.{is_true, and_left, and_right}
-use mathlib.Core.Bool.{Bool, true, false, not, ◌&&◌}
+use mathlib.Core.Bool.{Bool, true, false, ◌&&◌}
 use mathlib.Core.List.{List, [], ◌∷◌, ◌++◌}
-use Rattle.fields.specs.Bytes.{pick}
 use Rattle.names.specs.Words.{only, each}
 use Rattle.records.specs.Items.{What, Item}
 use Rattle.story.specs.Story.{Story}
 use Rattle.rules.specs.declared.Rule.{Rule}
 use Rattle.rules.specs.declared.Rule.TheVariants.{FunctionDivertedTo, TargetNotFound, FlowCalled, NameIsFunction, NameIsGlobal, TempIsParameter, TempIsLabel, ParameterUnmarked, ParameterAlreadyMarked, GatherRepeated, ChoiceUndiverted, FunctionWithStitches, FunctionWithChoice, FunctionWithDivert, VariableForbidden}
 use Rattle.rules.specs.Rules.{Known, Here, broken, Scope, known, here}
-use Rattle.rules.specs.Steps.{Step, s5, s6, s12, bracket, Run, run, Numbered, Visit, visits, breach, in_visit, in_run}
+use Rattle.rules.specs.Steps.{Step, bracket, Run, run, Numbered, visits, breach, in_visit}
 use Rattle.steps.specs.Heard.{Heard, hear_all, pass, run_now, hear_runs}
 use Rattle.steps.proofs.Hearing.{hear-append, all-instance}
 

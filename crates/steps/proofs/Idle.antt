@@ -4,7 +4,7 @@ use mathlib.Core.List.{List, []}
 use Prim.Native.Nat.{ℕ}
 use native.Mathlib.Omega.{arith}
 use lib.ListN.{length}
-use Rattle.sets.specs.Sets.{name_slots, Empty, Without}
+use Rattle.sets.specs.Sets.{name_slots, Empty}
 use Rattle.sets.proofs.Holding.{empty-without}
 use Rattle.sets.proofs.Passing.{members-none, members-start}
 use Rattle.broken.specs.declared.Scope.{Scope}

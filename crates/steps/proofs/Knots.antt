@@ -1,5 +1,5 @@
 -- The steps of a flow, and of the flows of a story: all is ready for them, and what they hear is what the runs find. Assumes nothing.
-use mathlib.Core.Path.{◌≡◌, refl, sym, ◌∙◌, ap}
+use mathlib.Core.Path.{◌≡◌, refl, sym, ap}
 use mathlib.Core.Bool.{Bool, true, false}
 use mathlib.Core.List.{List, [], ◌∷◌}
 use Prim.Native.Nat.{ℕ, ◌+◌, ◌≤◌, ◌<◌}
@@ -22,7 +22,7 @@ use Rattle.steps.specs.declared.Tally.{Tally}
 use Rattle.steps.specs.declared.bodies.Course.{Course}
 use Rattle.steps.specs.declared.context.Knot.{Knot}
 use Rattle.steps.specs.declared.context.StoryTurn.{StoryTurn}
-use Rattle.steps.specs.Heard.{Heard, heard, pass, passed, hear_runs}
+use Rattle.steps.specs.Heard.{Heard, heard, passed, hear_runs}
 use Rattle.steps.specs.Clear.{clear_along}
 use Rattle.steps.specs.Looks.{look_rules}
 use Rattle.steps.specs.Turns.{ScopeIs}

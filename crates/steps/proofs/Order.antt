@@ -1,6 +1,6 @@
 -- The runs of a stitch, of a flow and of a story, part after part. Assumes nothing.
-use mathlib.Core.Path.{◌≡◌, refl, ◌∙◌}
-use mathlib.Core.List.{List, [], ◌∷◌, ◌++◌}
+use mathlib.Core.Path.{◌≡◌}
+use mathlib.Core.List.{[], ◌∷◌, ◌++◌}
 use Rattle.names.specs.Words.{each}
 use Rattle.story.specs.Story.{Stitch, Flow, Story}
 use Rattle.rules.specs.Rules.{root, knot, stitch}

@@ -1,12 +1,10 @@
 -- The steps of the root, and of a whole story: all is ready for them, and what they hear is what the runs find. Assumes nothing.
-use mathlib.Core.Path.{◌≡◌, refl}
-use mathlib.Core.Bool.{false}
+use mathlib.Core.Path.{◌≡◌}
 use mathlib.Core.List.{List, [], ◌∷◌}
 use Prim.Native.Nat.{ℕ, ◌+◌, ◌≤◌, ◌<◌}
 use native.Mathlib.Omega.{arith}
 use Rattle.names.specs.Words.{each}
 use Rattle.items.specs.Bodies.{items_at, kept_story}
-use Rattle.items.specs.Runs.{number_before}
 use Rattle.rules.specs.Rules as rules
 use Rattle.rules.specs.Steps.{s20, root_steps, over, flow_runs, runs}
 use Rattle.broken.specs.declared.Scope.{Scope}

@@ -1,10 +1,9 @@
 -- The steps of a stitch, and of the stitches of a knot: all is ready for them, and what they hear is what the runs find. Assumes nothing.
-use mathlib.Core.Path.{◌≡◌, refl, sym, ◌∙◌, ap}
-use mathlib.Core.Bool.{Bool, true, false}
+use mathlib.Core.Path.{◌≡◌, ◌∙◌}
+use mathlib.Core.Bool.{Bool, true}
 use mathlib.Core.List.{List, [], ◌∷◌}
-use Prim.Native.Nat.{ℕ, ◌+◌, ◌≤◌, ◌<◌}
+use Prim.Native.Nat.{ℕ, ◌≤◌}
 use native.Mathlib.Omega.{arith}
-use Rattle.story.specs.Story.{Stitch, Flow}
 use Rattle.searches.specs.declared.views.StitchView.{StitchView}
 use Rattle.searches.specs.declared.views.StitchViewRead.{StitchViewRead}
 use Rattle.searches.specs.declared.views.StitchViewRead.TheVariants as stitch-read
@@ -13,12 +12,10 @@ use Rattle.items.specs.Bodies.{items_at, kept_story, kept_stitch, kept_stitches,
 use Rattle.items.specs.Runs.{number_before}
 use Rattle.items.proofs.RisingPlaces.{number-rises}
 use Rattle.rules.specs.Rules as rules
-use Rattle.rules.specs.Steps.{s12, stitch_steps, over, stitch_items, stitch_runs}
+use Rattle.rules.specs.Steps.{s12, over, stitch_items, stitch_runs}
 use Rattle.broken.specs.declared.Scope.{Scope}
 use Rattle.broken.specs.Scopes.{body_run, ScopeReady, KnotSet}
 use Rattle.steps.specs.declared.Tally.{Tally}
-use Rattle.steps.specs.declared.headings.Heading.{Heading}
-use Rattle.steps.specs.declared.bodies.Course.{Course}
 use Rattle.steps.specs.declared.context.Knot.{Knot}
 use Rattle.steps.specs.declared.context.StitchTurn.{StitchTurn}
 use Rattle.steps.specs.Heard.{Heard, heard, hear_runs}

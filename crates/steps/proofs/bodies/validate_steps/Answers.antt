@@ -1,6 +1,5 @@
 -- `steps::bodies::validate_steps` meets its contract. The loop's invariant: the first i steps were run. Assumes nothing.
 use mathlib.Core.Path.{refl}
-use Prim.Native.Nat.{◌-◌}
 use native.Mathlib.Omega.{arith}
 use Rattle.items.proofs.Standing.{kept-names-stand}
 use Rattle.steps.proofs.Coursing.{coursing-start, coursing-ready, coursing-next, coursing-end, coursing-full}

@@ -1,6 +1,5 @@
 -- `steps::context::validate_flows` meets its contract. The loop's invariant: what is to be heard is what the flows that are left find. Assumes nothing.
 use mathlib.Core.Path.{refl, sym, ◌∙◌}
-use Prim.Native.Nat.{◌-◌}
 use native.Mathlib.Omega.{arith}
 use lib.ListN.{length-take}
 use Rattle.steps.proofs.Runs.{through-end, through-full}

@@ -1,6 +1,5 @@
 -- `steps::context::validate_stitches` meets its contract. The loop's invariant: what is to be heard is what the stitches that are left find. Assumes nothing.
 use mathlib.Core.Path.{refl, sym, ◌∙◌}
-use Prim.Native.Nat.{◌-◌}
 use native.Mathlib.Omega.{arith}
 use Rattle.steps.proofs.Runs.{through-end, through-full}
 use Rattle.steps.proofs.Seen.{no-stitches, stitches-fewer}

@@ -4,7 +4,6 @@ use Rattle.rules.specs.Rules.{broken}
 use Rattle.broken.specs.Scopes.{known_in, here_in, before_at}
 use Rattle.steps.specs.Heard.{heard}
 use Rattle.steps.proofs.Visited.{like-broken, none-heard, one-heard, two-heard, three-heard}
-use borrow.Author.Rules.{rules}
 use Rattle.steps.proofs.visits.visit_thing.Goals as goal
 
 pub returns-then-rules-lt1 : goal.returns-then-rules-lt1
