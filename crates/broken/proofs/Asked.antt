@@ -15,12 +15,12 @@ use Rattle.story.proofs.Plain.{story-unlabelled}
 use Rattle.story.proofs.Readable.{readable}
 use Rattle.searches.specs.Called.{is_flow, is_function, called_as}
 use Rattle.sets.specs.Sets.{held}
-use Rattle.targets.specs.Spellings.{answers}
+use Rattle.symbols.specs.Fits.{answers}
 use Rattle.targets.specs.Slots.{end_slots}
 use Rattle.targets.proofs.Filling.{targets-found, targets-whole}
 use Rattle.items.specs.Bodies.{kept_story}
 use Rattle.symbols.specs.Index.{spellings}
-use Rattle.enumerator.proofs.ReadBack.{places-spelled}
+use Rattle.enumerator.proofs.Spelled.{places-spelled}
 use Rattle.symbols.proofs.Plain.{spellings-plain}
 use Rattle.rules.specs.Rules.{known}
 use Rattle.broken.specs.declared.StoryView.{StoryView}

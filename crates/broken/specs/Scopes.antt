@@ -11,7 +11,7 @@ use Rattle.items.specs.Search.{label_in, temp_in}
 use Rattle.sets.specs.Known.{NamesIn}
 use Rattle.targets.specs.Entries.{TargetsIn}
 use Rattle.symbols.specs.Index.{entries}
-use Rattle.enumerator.specs.Placed.{placed}
+use Rattle.symbols.specs.Placed.{placed}
 use Rattle.sets.specs.Members.{Members}
 use Rattle.items.specs.declared.named.Sought.TheVariants as sought
 use Rattle.rules.specs.Rules.{Known, Here, known}

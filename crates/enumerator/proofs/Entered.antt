@@ -10,16 +10,16 @@ use Rattle.story.specs.declared.Sections.{Sections}
 use Rattle.story.specs.File.{story_in}
 use Rattle.story.proofs.Readable.{Readable}
 use Rattle.sets.specs.Sets.{held, Empty}
-use Rattle.targets.specs.Spellings.{answers}
+use Rattle.symbols.specs.Fits.{answers}
 use Rattle.targets.specs.Slots.{end_slots}
 use Rattle.targets.proofs.Filling.{put_all}
 use Rattle.enumerator.specs.declared.Seen.{Seen}
 use Rattle.symbols.specs.Index.{entries, spellings}
-use Rattle.enumerator.specs.Placed.{placed}
+use Rattle.symbols.specs.Placed.{placed}
 use Rattle.enumerator.specs.Visited.{Visited}
 use Rattle.enumerator.specs.Entered.{Entered}
-use Rattle.enumerator.proofs.Placed.{placed-length}
-use Rattle.enumerator.proofs.ReadBack.{places-spelled}
+use Rattle.symbols.proofs.Placed.{placed-length}
+use Rattle.enumerator.proofs.Spelled.{places-spelled}
 use Rattle.enumerator.proofs.Visited.{visited-count}
 
 -- the entries of the file were visited, from an empty set on

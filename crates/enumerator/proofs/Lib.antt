@@ -1,13 +1,8 @@
--- The laws on the index.
+-- The laws on entries that are visited.
 pub mod Entered
-pub mod Fits
 pub mod Labels
-pub mod Named
-pub mod Owners
-pub mod Placed
-pub mod ReadBack
+pub mod Parts
 pub mod Ready
-pub mod Rows
-pub mod Searched
+pub mod Spelled
 pub mod Stored
 pub mod Visited

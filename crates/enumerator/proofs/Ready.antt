@@ -12,18 +12,18 @@ use Rattle.story.specs.Story.{Name}
 use Rattle.story.specs.File.{story_in}
 use Rattle.story.proofs.Readable.{Readable}
 use Rattle.sets.specs.Sets.{Reachable}
-use Rattle.targets.specs.declared.Places.{Places}
+use Rattle.symbols.specs.declared.Places.{Places}
 use Rattle.targets.specs.Slots.{end_slots}
 use Rattle.targets.specs.Put.{NameFits}
 use Rattle.targets.specs.Entries.{PlacesFit}
 use Rattle.symbols.specs.Index.{Entry, entries}
-use Rattle.enumerator.specs.Numbers.{number_of, places_of}
-use Rattle.enumerator.specs.Placed.{placed}
+use Rattle.symbols.specs.Numbers.{number_of, places_of}
+use Rattle.symbols.specs.Placed.{placed}
 use Rattle.symbols.specs.Stands.{PartStands, EntryStands}
 use Rattle.enumerator.specs.Visited.{Ready}
-use Rattle.enumerator.proofs.Placed.{placed-length}
-use Rattle.enumerator.proofs.Owners.{entries-few}
-use Rattle.enumerator.proofs.ReadBack.{entries-stand}
+use Rattle.symbols.proofs.Placed.{placed-length}
+use Rattle.symbols.proofs.Owners.{entries-few}
+use Rattle.symbols.proofs.ReadBack.{entries-stand}
 
 module _ (file : List ℕ) (end : ℕ) (short : end ≤ 1048575) where
   part-fits : (o : Option Name) → PartStands file end o → NameFits (number_of o)

@@ -9,13 +9,15 @@ use lib.ListN.{length, length-append}
 use Rattle.names.specs.Words.{any}
 use Rattle.names.proofs.Any.{any_append}
 use Rattle.sets.specs.Sets.{Reachable}
-use Rattle.targets.specs.declared.Places.{Places}
-use Rattle.targets.specs.Spellings.{spelling_in, answers}
+use Rattle.symbols.specs.declared.Places.{Places}
+use Rattle.symbols.specs.Rows.{spelling_in}
+use Rattle.symbols.specs.Fits.{answers}
 use Rattle.targets.specs.Slots.{end_slots}
 use Rattle.targets.specs.Entries.{EntryPut, Put}
 use Rattle.targets.proofs.Filling.{entry-none, put-none, put_one, put-append}
 use Rattle.enumerator.specs.declared.Seen.{Seen}
-use Rattle.enumerator.specs.Numbers.{St, st, store, store_all}
+use Rattle.symbols.specs.Numbers.{St, st}
+use Rattle.enumerator.specs.Numbers.{store, store_all}
 use Rattle.enumerator.specs.Visited.{Ready, Visited}
 use Rattle.enumerator.proofs.Stored.{store-append, store-count}
 

@@ -5,8 +5,9 @@ use Rattle.story.specs.File.{story_in}
 use Rattle.targets.specs.Entries.{TargetsIn}
 use Rattle.enumerator.specs.declared.Seen.{Seen}
 use Rattle.symbols.specs.Index.{entries}
-use Rattle.enumerator.specs.Numbers.{st, store_all}
-use Rattle.enumerator.specs.Placed.{placed}
+use Rattle.symbols.specs.Numbers.{st}
+use Rattle.enumerator.specs.Numbers.{store_all}
+use Rattle.symbols.specs.Placed.{placed}
 
 -- how many entries there are; they are stored in the index as far as there is room, and their targets were put into the set
 pub record Entered (file : List ℕ) (c : Sections) (index index' set : List ℕ) (seen : Seen) : Type 0 where

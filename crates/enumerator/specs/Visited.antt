@@ -2,12 +2,14 @@
 use Rattle.std.specs.Prelude.{ℕ, ◌+◌, ◌≤◌, ◌≡◌, ◌||◌, List, map, length}
 use Rattle.names.specs.Words.{any, ◌∈◌}
 use Rattle.sets.specs.Sets.{Reachable}
-use Rattle.targets.specs.declared.Places.{Places}
-use Rattle.targets.specs.Spellings.{spelling_in, answers}
+use Rattle.symbols.specs.declared.Places.{Places}
+use Rattle.symbols.specs.Rows.{spelling_in}
+use Rattle.symbols.specs.Fits.{answers}
 use Rattle.targets.specs.Slots.{end_slots}
 use Rattle.targets.specs.Entries.{PlacesFit, Put}
 use Rattle.enumerator.specs.declared.Seen.{Seen}
-use Rattle.enumerator.specs.Numbers.{st, store_all}
+use Rattle.symbols.specs.Numbers.{st}
+use Rattle.enumerator.specs.Numbers.{store_all}
 
 -- the entries are few enough to be counted, and their targets can be put into the set
 pub record Ready (file : List ℕ) (places : List Places) (set : List ℕ) (count : ℕ) : Type 0 where

@@ -9,10 +9,11 @@ ghost use Rattle.story.specs.File.{story_in};
 ghost use Rattle.records.specs.Numbers.{item_in};
 ghost use Rattle.items.specs.Bodies.{Range, items_at, Rising, kept_stitch, kept_stitches, kept_flow, Kept, StitchesKept, FlowsKept};
 ghost use Rattle.symbols.specs.Index.{flow_entries, entries, spellings};
-ghost use Rattle.enumerator.specs.Numbers.{st, store_all};
-ghost use Rattle.enumerator.specs.Placed.{placed, names_placed, labels_placed, prefix_number, stitch_placed};
+ghost use Rattle.symbols.specs.Numbers.{st};
+ghost use Rattle.enumerator.specs.Numbers.{store_all};
+ghost use Rattle.symbols.specs.Placed.{placed, names_placed, labels_placed, prefix_number, stitch_placed};
 ghost use Rattle.sets.specs.Sets.{Reachable};
-ghost use Rattle.targets.specs.Spellings.{answers};
+ghost use Rattle.symbols.specs.Fits.{answers};
 ghost use Rattle.targets.specs.Slots.{end_slots};
 ghost use Rattle.enumerator.specs.Visited.{Ready, Visited};
 ghost use Rattle.enumerator.specs.Entered.{Entered};
@@ -24,7 +25,8 @@ use items::runs::{body_items, items_from};
 use names::name_at;
 use searches::views::{FlowView, FlowViewRead, StitchView, StitchViewRead, flow_view, stitch_view};
 use story::Sections;
-use targets::{ABSENT, Places, clear};
+use symbols::{ABSENT, Places};
+use targets::clear;
 
 // Visits at most so many names, from the place on and before the end, each alone.
 fn put_names(

@@ -1,7 +1,6 @@
-// The index of a story: its entries, written as three numbers each, and found by a target.
+// The entries of a story, visited one after the other with three outputs: the index, a set of targets, a target that is asked for.
 #![tactic(auto)]
 
-pub mod answers;
 pub mod entries;
 pub mod visits;
 
@@ -11,19 +10,4 @@ pub struct Seen {
     pub count: usize,
     pub left: bool,
     pub found: bool,
-}
-
-// How a target fits a spelling: it is the spelling, or the spelling ends in "." and the target.
-#[derive(Clone, Copy)]
-pub enum Fit {
-    Exact,
-    Ending,
-    Differs,
-}
-
-// The number of an entry, or none.
-#[derive(Clone, Copy)]
-pub enum Found {
-    At(usize),
-    Nowhere,
 }

@@ -1,15 +1,18 @@
 // A visit of an entry: it is stored in the index, its targets are put into a set, and a target is compared with it.
 ghost use Rattle.std.specs.Prelude.{◌≡◌, not, ◌||◌, [], ◌∷◌, ◌-◌, ◌<◌, eqb, length, get_or};
-ghost use Rattle.enumerator.specs.Numbers.{st, store};
+ghost use Rattle.symbols.specs.Numbers.{st};
+ghost use Rattle.enumerator.specs.Numbers.{store};
 ghost use Rattle.sets.specs.Sets.{Reachable};
-ghost use Rattle.targets.specs.Spellings.{spelling_in, answers};
+ghost use Rattle.symbols.specs.Rows.{spelling_in};
+ghost use Rattle.symbols.specs.Fits.{answers};
 ghost use Rattle.targets.specs.Slots.{end_slots};
 ghost use Rattle.targets.specs.Entries.{PlacesFit, Put};
 ghost use Rattle.enumerator.specs.Visited.{Ready, Visited};
 
 use crate::Seen;
-use crate::answers::{fit_entry, is_wanted};
-use targets::{Places, put_entry};
+use symbols::targets::fit_entry;
+use symbols::{Fit, Places};
+use targets::put_entry;
 
 // Stores an entry after the n visited before it, where the index has room; how many were visited now.
 fn store_entry(index: &mut [u32], n: usize, p: Places) -> usize
@@ -60,7 +63,12 @@ fn ask_entry(file: &[u8], p: Places, target: &[u8], found: bool) -> bool
     if found {
         return true;
     }
-    is_wanted(fit_entry(file, p, target), true, true)
+    let fit = fit_entry(file, p, target);
+    match fit {
+        Fit::Exact => true,
+        Fit::Ending => true,
+        Fit::Differs => false,
+    }
 }
 
 // Visits an entry: stores and counts it, puts its targets, and compares the target where it was not found before.

@@ -14,8 +14,10 @@ use Rattle.fields.proofs.Laws.{to_end}
 use Rattle.names.specs.Words.{Bytes, same, only, one_of, ends}
 use Rattle.names.specs.Counted.{name_at}
 use Rattle.names.proofs.Any.{any_append, any-only}
-use Rattle.targets.specs.declared.Places.{Places}
-use Rattle.targets.specs.Spellings.{absent, dotted_in, spelling_in, answers}
+use Rattle.symbols.specs.declared.Places.{Places}
+use Rattle.symbols.specs.Numbers.{absent}
+use Rattle.symbols.specs.Rows.{dotted_in, spelling_in}
+use Rattle.symbols.specs.Fits.{answers}
 use Rattle.targets.specs.Ends.{after_dots, dotted_ends, end_at, before}
 use Rattle.targets.specs.Slots.{number_of, after}
 use Rattle.targets.specs.Entries.{ends_from}

@@ -10,8 +10,10 @@ use Rattle.names.specs.Words.{Bytes, any, one_of}
 use Rattle.names.proofs.Bools.{is_true}
 use Rattle.sets.specs.Sets.{held, Empty, Reachable}
 use Rattle.sets.proofs.Clearing.{empty-reachable, empty_holds}
-use Rattle.targets.specs.declared.Places.{Places}
-use Rattle.targets.specs.Spellings.{absent, spelling_in, answers}
+use Rattle.symbols.specs.declared.Places.{Places}
+use Rattle.symbols.specs.Numbers.{absent}
+use Rattle.symbols.specs.Rows.{spelling_in}
+use Rattle.symbols.specs.Fits.{answers}
 use Rattle.targets.specs.Ends.{dotted_ends}
 use Rattle.targets.specs.Slots.{after, number_of, end_slots}
 use Rattle.targets.specs.Put.{NameFits, Gained}

@@ -4,8 +4,10 @@ use Rattle.fields.specs.Bytes.{pick}
 use Rattle.names.specs.Words.{Bytes, any, one_of}
 use Rattle.names.specs.Counted.{name_at}
 use Rattle.sets.specs.Sets.{held, Reachable}
-use Rattle.targets.specs.declared.Places.{Places}
-use Rattle.targets.specs.Spellings.{absent, spelling_in, answers}
+use Rattle.symbols.specs.declared.Places.{Places}
+use Rattle.symbols.specs.Numbers.{absent}
+use Rattle.symbols.specs.Rows.{spelling_in}
+use Rattle.symbols.specs.Fits.{answers}
 use Rattle.targets.specs.Ends.{dotted_ends, before}
 use Rattle.targets.specs.Slots.{end_slots}
 use Rattle.targets.specs.Put.{NameFits}

@@ -1,5 +1,4 @@
 -- The definitions on targets.
-pub mod Spellings
 pub mod Ends
 pub mod Slots
 pub mod Put

@@ -5,7 +5,7 @@ use Rattle.sets.specs.declared.Sought.{Sought}
 use Rattle.sets.specs.declared.Sought.TheVariants as sought
 use Rattle.sets.specs.Sets.{Slots, held, Reachable, Room}
 use Rattle.targets.specs.declared.DottedEnd.{DottedEnd}
-use Rattle.targets.specs.Spellings.{absent}
+use Rattle.symbols.specs.Numbers.{absent}
 
 -- 1. What a slot has room for
 

@@ -5,7 +5,7 @@ use Rattle.names.specs.Words.{Bytes}
 use Rattle.names.specs.Counted.{name_at}
 use Rattle.sets.specs.Sets.{Slots}
 use Rattle.targets.specs.declared.DottedEnd.{DottedEnd}
-use Rattle.targets.specs.Spellings.{absent}
+use Rattle.symbols.specs.Numbers.{absent}
 use Rattle.targets.specs.Ends.{end_at}
 
 -- the number of the name at the place: 1 + the place, and 0 where there is none

@@ -6,8 +6,9 @@ ghost use Rattle.targets.specs.Put.{NameFits, PartsFit, Gained};
 ghost use Rattle.targets.specs.Entries.{ends_from, ends_with, PlacesFit, EntryPut};
 
 use crate::ends::count_dots;
-use crate::{ABSENT, DottedEnd, Places, put_end};
+use crate::{DottedEnd, put_end};
 use names::name_at;
+use symbols::{ABSENT, Places};
 
 // The number of the name at the place: 0 where there is none.
 fn number_of(at: u32) -> usize

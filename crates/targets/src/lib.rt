@@ -14,20 +14,10 @@ use ends::{end_in, hash_end, same_end, same_parts};
 use entries::put_all_ends;
 use sets::Sought;
 use sets::hashes::{hash_of, home_of};
+use symbols::Places;
 
 pub mod ends;
 pub mod entries;
-
-// The number for no name.
-pub const ABSENT: u32 = 4294967295;
-
-// An entry of the index: the places of the count bytes of its flow's, its stitch's and its own name.
-#[derive(Clone, Copy)]
-pub struct Places {
-    pub flow: u32,
-    pub stitch: u32,
-    pub own: u32,
-}
 
 // An end of a spelling: what follows so many dots of the name at the place `first`, and the names of the two numbers after it, each with a dot
 // before it. The number of a name is 1 + its place, and 0 is the number of none.

@@ -3,7 +3,7 @@
 use mathlib.Core.Path.{refl}
 use native.Mathlib.Omega.{arith}
 use Rattle.enumerator.proofs.Visited.{visiting-start, visiting-end, visiting-ready, visiting-many}
-use Rattle.enumerator.proofs.Labels.{labels_next, labels-end}
+use Rattle.symbols.proofs.Labels.{labels_next, labels-end}
 use Rattle.enumerator.proofs.entries.collect_labels_from_nodes.Goals as goal
 
 pub loop-i-init : goal.loop-i-init

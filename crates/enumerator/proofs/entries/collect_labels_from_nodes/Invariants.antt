@@ -4,7 +4,7 @@ use mathlib.Core.Path.{◌≡◌}
 use Prim.Native.Nat.{◌≤◌, ◌-◌}
 use lib.ListN.{length, drop}
 use Rattle.items.specs.Bodies.{items_at}
-use Rattle.enumerator.specs.Placed.{labels_placed}
+use Rattle.symbols.specs.Placed.{labels_placed}
 use Rattle.enumerator.proofs.Visited.{Visiting}
 use Rattle.enumerator.proofs.entries.collect_labels_from_nodes.Given as goal
 

@@ -8,8 +8,8 @@ use Rattle.story.proofs.Readable.{readable}
 use Rattle.story.proofs.Plain.{story-unlabelled}
 use Rattle.items.specs.Bodies.{items_at}
 use Rattle.items.proofs.Kept.{kept-rising, kept-flows, root-plain}
-use Rattle.enumerator.proofs.Named.{section-names}
-use Rattle.enumerator.proofs.Placed.{story-parts}
+use Rattle.symbols.proofs.Named.{section-names}
+use Rattle.enumerator.proofs.Parts.{story-parts}
 use Rattle.enumerator.proofs.Ready.{story-ready}
 use Rattle.enumerator.proofs.Visited.{visiting-parts, visiting-end, visiting-ready, visiting-many, ready-first}
 use Rattle.enumerator.proofs.entries.enumerate.Goals as goal

@@ -1,9 +1,9 @@
 -- `enumerator::entries::has_target` meets its contract: the spellings of the entries are those of the story. Assumes nothing.
 use mathlib.Core.Path.{refl, ◌∙◌, ap}
 use Rattle.names.specs.Words.{any}
-use Rattle.enumerator.specs.Fits.{answers}
+use Rattle.symbols.specs.Fits.{answers}
 use Rattle.story.proofs.Readable.{readable}
-use Rattle.enumerator.proofs.ReadBack.{places-spelled}
+use Rattle.enumerator.proofs.Spelled.{places-spelled}
 use Rattle.enumerator.proofs.entries.has_target.Goals as goal
 
 pub returns : goal.returns

@@ -4,8 +4,8 @@ use mathlib.Core.List.{List, [], ◌∷◌}
 use Prim.Native.Nat.{ℕ}
 use native.Mathlib.Omega.{arith}
 use lib.ListN.{length}
-use Rattle.enumerator.specs.Numbers.{absent}
-use Rattle.enumerator.specs.Placed.{prefix_number}
+use Rattle.symbols.specs.Numbers.{absent}
+use Rattle.symbols.specs.Placed.{prefix_number}
 use Rattle.enumerator.proofs.entries.prefix_number.Goals as goal
 
 unnamed : (w : List ℕ) (at : ℕ) {v : List ℕ} → v ≡ w → length v ≡ 0 → absent ≡ prefix_number w at

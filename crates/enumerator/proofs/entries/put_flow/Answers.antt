@@ -3,7 +3,7 @@ use mathlib.Core.Path.{refl}
 use native.Mathlib.Omega.{arith}
 use Rattle.items.specs.Bodies.{kept_flow}
 use Rattle.enumerator.proofs.Visited.{visiting-parts, visiting-end, visiting-ready, visiting-many, ready-first}
-use Rattle.enumerator.proofs.Placed.{flow-parts}
+use Rattle.enumerator.proofs.Parts.{flow-parts}
 use Rattle.enumerator.proofs.entries.put_flow.Goals as goal
 
 pub visit_entry-first-requires : goal.visit_entry-first-requires

@@ -8,7 +8,7 @@ use Rattle.searches.proofs.Viewed.{flow-laid}
 use Rattle.searches.proofs.Readable.{no_flow, flow-readable}
 use Rattle.items.proofs.Kept.{flow-stitches, flow-rest, flows-plain, flows-from}
 use Rattle.enumerator.proofs.Visited.{visiting-start, visiting-end, visiting-ready, visiting-many}
-use Rattle.enumerator.proofs.Placed.{flows-none, flows-next}
+use Rattle.symbols.proofs.Placed.{flows-none, flows-next}
 use Rattle.enumerator.proofs.entries.put_flows.Goals as goal
 
 pub loop-v-init : goal.loop-v-init

@@ -10,7 +10,7 @@ use Rattle.story.specs.Plain.{flow_without_plain}
 use Rattle.story.specs.Flows.{part, flows, flows_in}
 use Rattle.items.specs.Bodies.{FlowsKept}
 use Rattle.symbols.specs.Index.{flow_entries}
-use Rattle.enumerator.specs.Placed.{placed}
+use Rattle.symbols.specs.Placed.{placed}
 use Rattle.enumerator.proofs.Visited.{Visiting}
 use Rattle.enumerator.proofs.entries.put_flows.Given as goal
 

@@ -3,7 +3,7 @@ use mathlib.Core.Path.{refl}
 use mathlib.Core.List.{[], ◌∷◌}
 use native.Mathlib.Omega.{arith}
 use Rattle.enumerator.proofs.Visited.{visiting-start, visiting-end, visiting-ready, visiting-many}
-use Rattle.enumerator.proofs.Named.{alone_at, names-asked, names-past, names-on}
+use Rattle.symbols.proofs.Named.{alone_at, names-asked, names-past, names-on}
 use Rattle.enumerator.proofs.entries.put_names.Goals as goal
 
 pub loop-left-init : goal.loop-left-init

@@ -2,7 +2,7 @@
 use mathlib.Core.Path.{◌≡◌}
 use lib.ListN.{length}
 use Rattle.story.specs.Flows.{names_n, part}
-use Rattle.enumerator.specs.Placed.{names_placed}
+use Rattle.symbols.specs.Placed.{names_placed}
 use Rattle.enumerator.proofs.Visited.{Visiting}
 use Rattle.enumerator.proofs.entries.put_names.Given as goal
 

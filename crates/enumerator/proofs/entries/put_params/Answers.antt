@@ -1,6 +1,6 @@
 -- `enumerator::entries::put_params` meets its contract: the count byte says how many names follow it. Assumes nothing.
 use native.Mathlib.Omega.{arith}
-use Rattle.enumerator.proofs.Named.{counted-names}
+use Rattle.symbols.proofs.Named.{counted-names}
 use Rattle.enumerator.proofs.entries.put_params.Goals as goal
 
 pub overflow_cast-many : goal.overflow_cast-many

@@ -2,7 +2,7 @@
 use mathlib.Core.Path.{refl}
 use Rattle.items.specs.Bodies.{kept_stitch}
 use Rattle.enumerator.proofs.Visited.{visiting-parts, visiting-end, visiting-ready, visiting-many, ready-first}
-use Rattle.enumerator.proofs.Placed.{stitch-parts}
+use Rattle.enumerator.proofs.Parts.{stitch-parts}
 use Rattle.enumerator.proofs.entries.put_stitch.Goals as goal
 
 pub visit_entry-first-requires : goal.visit_entry-first-requires

@@ -9,7 +9,7 @@ use Rattle.story.specs.Plain.{stitch_without_plain}
 use Rattle.searches.proofs.Viewed.{stitch-laid}
 use Rattle.searches.proofs.Readable.{no-stitch, stitch-readable}
 use Rattle.items.proofs.Kept.{stitch-rest, stitches-plain, stitches-from}
-use Rattle.enumerator.specs.Placed.{stitch_placed}
+use Rattle.symbols.specs.Placed.{stitch_placed}
 use Rattle.enumerator.proofs.Visited.{visiting-start, visiting-end, visiting-ready, visiting-many}
 use Rattle.enumerator.proofs.entries.put_stitches.Goals as goal
 

@@ -7,7 +7,7 @@ use Rattle.names.specs.Words.{each}
 use Rattle.records.specs.Trace.{well, ends}
 use Rattle.story.specs.Flows.{part, stitches}
 use Rattle.items.specs.Bodies.{kept_stitches, StitchesKept}
-use Rattle.enumerator.specs.Placed.{stitch_placed}
+use Rattle.symbols.specs.Placed.{stitch_placed}
 use Rattle.enumerator.proofs.Visited.{Visiting}
 use Rattle.enumerator.proofs.entries.put_stitches.Given as goal
 

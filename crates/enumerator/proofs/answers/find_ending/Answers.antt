@@ -1,7 +1,0 @@
--- `enumerator::answers::find_ending` meets its contract: a fit by its ending is a dot and the word at the end. Assumes nothing.
-use mathlib.Core.Path.{◌∙◌}
-use Rattle.enumerator.proofs.Searched.{sought-ending, first-same}
-use Rattle.enumerator.proofs.answers.find_ending.Goals as goal
-
-pub returns : goal.returns
-returns c = c.find_entry.ensures ∙ first-same _ _ (sought-ending c.args.target.now) _ _
