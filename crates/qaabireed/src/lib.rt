@@ -1,4 +1,4 @@
-// The library for programs in other languages: calls on lent buffers of numbers.
+// The calls for programs in other languages, on lent buffers of numbers; `qaabireed_c` exports them.
 #![tactic(auto)]
 
 ghost use Rattle.std.specs.Prelude.{◌≡◌, [], ◌∷◌, ◌≤◌, ◌<◌, ◌^◌, length};
@@ -82,13 +82,7 @@ fn put_check(res: &mut [u32], answer: Answer)
 }
 
 // Checks a story file, and writes the numbers of the result; 1, and nothing is written, where their buffer has under seven.
-#[unsafe(no_mangle)]
-pub extern "C" fn qaabireed_check(
-    file: &[u8],
-    index: &mut [u32],
-    message: &mut [u8],
-    res: &mut [u32],
-) -> u32
+pub fn qaabireed_check(file: &[u8], index: &mut [u32], message: &mut [u8], res: &mut [u32]) -> u32
     ensures { CheckCalled file.now index.old message.old res.old result index.new message.new res.new }
 {
     if res.len() < 7 {
@@ -143,13 +137,7 @@ fn put_lookup(res: &mut [u32], answer: LookupAnswer)
 }
 
 // Looks a target up, and writes the numbers of the result; 1, and nothing is written, where their buffer has under four.
-#[unsafe(no_mangle)]
-pub extern "C" fn qaabireed_lookup(
-    file: &[u8],
-    index: &mut [u32],
-    target: &[u8],
-    res: &mut [u32],
-) -> u32
+pub fn qaabireed_lookup(file: &[u8], index: &mut [u32], target: &[u8], res: &mut [u32]) -> u32
     ensures { LookupCalled file.now index.old target.now res.old result index.new res.new }
 {
     if res.len() < 4 {
