@@ -19,7 +19,7 @@ returns-in-Clear c =
     story-accepted index c.args.message.now c.validate_story-found.ensures c.in-Clear.is
 
 pub shape_of-index-in-Breach : goal.shape_of-index-in-Breach
-shape_of-index-in-Breach c = omega (arith, c.index-1.given)
+shape_of-index-in-Breach c = omega arith
 
 pub returns-in-Breach : goal.returns-in-Breach
 returns-in-Breach c =

@@ -22,11 +22,11 @@ validate_later_steps-requires c =
 
 pub shape_of-declared : goal.shape_of-declared
 shape_of-declared c =
-    omega (arith, c.declared-1.given)
+    omega arith
 
 pub shape_of-gathers : goal.shape_of-gathers
 shape_of-gathers c =
-    omega (arith, c.gathers-1.given, c.gathers-2-1.given)
+    omega arith
 
 pub returns : goal.returns
 returns c =

@@ -10,7 +10,7 @@ body_items-items-requires c =
     c.requires.scope_ready.rising
 
 pub loop-i-init : goal.loop-i-init
-loop-i-init c = (omega (arith, c.gathers-1.given), unbroken-start _ _ _ _, gathered-start _ _ _ _ _)
+loop-i-init c = (omega arith, unbroken-start _ _ _ _, gathered-start _ _ _ _ _)
 
 pub is_item_clear-requires : goal.is_item_clear-requires
 is_item_clear-requires c =

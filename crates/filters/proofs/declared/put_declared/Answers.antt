@@ -13,4 +13,4 @@ slice_bounds-put_names-end-2 c =
 
 pub returns : goal.returns
 returns c =
-    declared-put c.args.filter.now _ _ (omega (arith, c.filter-1.given, length-take c.split_at-split.result c.args.filter.now, c.split_at-split.ensures.1)) (omega (arith, c.filter-2-1.given)) c.split_at-split.ensures.1 c.split_at-split.ensures.0 c.put_names.ensures c.put_labels.ensures
+    declared-put c.args.filter.now _ _ (omega (arith, length-take c.split_at-split.result c.args.filter.now, c.split_at-split.ensures.1)) (omega arith) c.split_at-split.ensures.1 c.split_at-split.ensures.0 c.put_names.ensures c.put_labels.ensures

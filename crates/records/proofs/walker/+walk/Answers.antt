@@ -16,7 +16,7 @@ use Rattle.records.specs.declared.Walk.TheVariants as walk
 use Rattle.records.proofs.walker.+walk.Goals as goal
 
 pub arms-slice_bounds-list-count : goal.arms-slice_bounds-list-count
-arms-slice_bounds-list-count t c = ((list-within c.args.s.now c.in-To.e c.read_list-reach.ensures c.in-To.is)).0
+arms-slice_bounds-list-count t c = (list-within c.args.s.now c.in-To.e c.read_list-reach.ensures c.in-To.is).0
 
 pub arms-slice_bounds-list-start : goal.arms-slice_bounds-list-start
 arms-slice_bounds-list-start t c = omega (arith, (list-within c.args.s.now c.in-To.e c.read_list-reach.ensures c.in-To.is))
@@ -146,29 +146,25 @@ pub branch-returns-in_default : goal.branch-returns-in_default
 branch-returns-in_default t c = let a = c.args in branch-test-refused keeping a.base (st a.out.now a.n) (record_of a.left) a.s.now c.test-tested.ensures c.in_default.field-0 c.in_default.is
 
 pub branch-slice_bounds-front_list-count : goal.branch-slice_bounds-front_list-count
-branch-slice_bounds-front_list-count t c = ((let fact : (1 ≤ c.in-To.e) × (c.in-To.e ≤ length c.args.s.now) = let a = c.args in
-    test_fits keeping a.base (st a.out.now a.n) (record_of a.left) a.s.now c.test-tested.ensures c.in-To.e c.in-To.m c.in-To.is in fact)).1
+branch-slice_bounds-front_list-count t c = (test_fits keeping c.args.base (st c.args.out.now c.args.n) (record_of c.args.left) c.args.s.now c.test-tested.ensures c.in-To.e c.in-To.m c.in-To.is).1
 
 pub branch-slice_bounds-front_list-start : goal.branch-slice_bounds-front_list-start
 branch-slice_bounds-front_list-start t c = omega (
   arith,
-  (let fact : (1 ≤ c.in-To.e) × (c.in-To.e ≤ length c.args.s.now) = let a = c.args in
-      test_fits keeping a.base (st a.out.now a.n) (record_of a.left) a.s.now c.test-tested.ensures c.in-To.e c.in-To.m c.in-To.is in fact),
+  (test_fits keeping c.args.base (st c.args.out.now c.args.n) (record_of c.args.left) c.args.s.now c.test-tested.ensures c.in-To.e c.in-To.m c.in-To.is),
 )
 
 pub branch-overflow_add-base : goal.branch-overflow_add-base
 branch-overflow_add-base t c = omega (
   arith,
-  (let fact : (1 ≤ c.in-To.e) × (c.in-To.e ≤ length c.args.s.now) = let a = c.args in
-      test_fits keeping a.base (st a.out.now a.n) (record_of a.left) a.s.now c.test-tested.ensures c.in-To.e c.in-To.m c.in-To.is in fact),
+  (test_fits keeping c.args.base (st c.args.out.now c.args.n) (record_of c.args.left) c.args.s.now c.test-tested.ensures c.in-To.e c.in-To.m c.in-To.is),
   c.requires,
 )
 
 pub branch-front_list-nodes-requires : goal.branch-front_list-nodes-requires
 branch-front_list-nodes-requires t c = omega (
   arith,
-  (let fact : (1 ≤ c.in-To.e) × (c.in-To.e ≤ length c.args.s.now) = let a = c.args in
-      test_fits keeping a.base (st a.out.now a.n) (record_of a.left) a.s.now c.test-tested.ensures c.in-To.e c.in-To.m c.in-To.is in fact),
+  (test_fits keeping c.args.base (st c.args.out.now c.args.n) (record_of c.args.left) c.args.s.now c.test-tested.ensures c.in-To.e c.in-To.m c.in-To.is),
   length-take {A = ℕ},
   length-drop {A = ℕ},
   c.decreases,
@@ -188,8 +184,7 @@ branch-overflow_add-result t c =
     let inside = listed-fits keeping (a.base + e) (st c.test-tested.new.out c.in-To.m) (record_of a.left Branch) rest c.front_list-nodes.ensures c.in-To-nodes.d c.in-To-nodes.q c.in-To-nodes.is in
     omega (
       arith,
-      (let fact : (1 ≤ c.in-To.e) × (c.in-To.e ≤ length c.args.s.now) = let a = c.args in
-          test_fits keeping a.base (st a.out.now a.n) (record_of a.left) a.s.now c.test-tested.ensures c.in-To.e c.in-To.m c.in-To.is in fact),
+      (test_fits keeping c.args.base (st c.args.out.now c.args.n) (record_of c.args.left) c.args.s.now c.test-tested.ensures c.in-To.e c.in-To.m c.in-To.is),
       inside,
       length-take (length a.s.now - e) (drop e a.s.now),
       length-drop e a.s.now,
@@ -217,36 +212,24 @@ branches-returns-in_Refused-piece t c =
 pub branches-overflow_add-at : goal.branches-overflow_add-at
 branches-overflow_add-at t c = omega (
   arith,
-  (let fact : (1 ≤ c.in_To-piece.e) × (c.in_To-piece.e ≤ length c.loop-t.t.now) = let a = c.args in
-      let l = c.loop-t in
-      let piece = c.branch-piece in
-      branch_fits keeping l.at (st l.out l.count) (record_of a.left) l.t.now piece.ensures c.in_To-piece.e c.in_To-piece.m c.in_To-piece.is in fact),
+  (branch_fits keeping c.loop-t.at (st c.loop-t.out c.loop-t.count) (record_of c.args.left) c.loop-t.t.now c.branch-piece.ensures c.in_To-piece.e c.in_To-piece.m c.in_To-piece.is),
   c.loop-t.invariant.0,
   c.requires,
 )
 
 pub branches-slice_bounds-t-count : goal.branches-slice_bounds-t-count
-branches-slice_bounds-t-count t c = ((let fact : (1 ≤ c.in_To-piece.e) × (c.in_To-piece.e ≤ length c.loop-t.t.now) = let a = c.args in
-    let l = c.loop-t in
-    let piece = c.branch-piece in
-    branch_fits keeping l.at (st l.out l.count) (record_of a.left) l.t.now piece.ensures c.in_To-piece.e c.in_To-piece.m c.in_To-piece.is in fact)).1
+branches-slice_bounds-t-count t c = (branch_fits keeping c.loop-t.at (st c.loop-t.out c.loop-t.count) (record_of c.args.left) c.loop-t.t.now c.branch-piece.ensures c.in_To-piece.e c.in_To-piece.m c.in_To-piece.is).1
 
 pub branches-slice_bounds-t-start : goal.branches-slice_bounds-t-start
 branches-slice_bounds-t-start t c = omega (
   arith,
-  (let fact : (1 ≤ c.in_To-piece.e) × (c.in_To-piece.e ≤ length c.loop-t.t.now) = let a = c.args in
-      let l = c.loop-t in
-      let piece = c.branch-piece in
-      branch_fits keeping l.at (st l.out l.count) (record_of a.left) l.t.now piece.ensures c.in_To-piece.e c.in_To-piece.m c.in_To-piece.is in fact),
+  (branch_fits keeping c.loop-t.at (st c.loop-t.out c.loop-t.count) (record_of c.args.left) c.loop-t.t.now c.branch-piece.ensures c.in_To-piece.e c.in_To-piece.m c.in_To-piece.is),
 )
 
 pub branches-loop-t-smaller : goal.branches-loop-t-smaller
 branches-loop-t-smaller t c = omega (
   arith,
-  (let fact : (1 ≤ c.in_To-piece.e) × (c.in_To-piece.e ≤ length c.loop-t.t.now) = let a = c.args in
-      let l = c.loop-t in
-      let piece = c.branch-piece in
-      branch_fits keeping l.at (st l.out l.count) (record_of a.left) l.t.now piece.ensures c.in_To-piece.e c.in_To-piece.m c.in_To-piece.is in fact),
+  (branch_fits keeping c.loop-t.at (st c.loop-t.out c.loop-t.count) (record_of c.args.left) c.loop-t.t.now c.branch-piece.ensures c.in_To-piece.e c.in_To-piece.m c.in_To-piece.is),
   length-take {A = ℕ},
   length-drop {A = ℕ},
 )
@@ -258,10 +241,7 @@ branches-loop-t-preserved t c =
     let piece = c.branch-piece in (
       omega (
         arith,
-        (let fact : (1 ≤ c.in_To-piece.e) × (c.in_To-piece.e ≤ length c.loop-t.t.now) = let a = c.args in
-            let l = c.loop-t in
-            let piece = c.branch-piece in
-            branch_fits keeping l.at (st l.out l.count) (record_of a.left) l.t.now piece.ensures c.in_To-piece.e c.in_To-piece.m c.in_To-piece.is in fact),
+        (branch_fits keeping c.loop-t.at (st c.loop-t.out c.loop-t.count) (record_of c.args.left) c.loop-t.t.now c.branch-piece.ensures c.in_To-piece.e c.in_To-piece.m c.in_To-piece.is),
         length-take {A = ℕ},
         length-drop {A = ℕ},
         l.invariant.0,
@@ -282,7 +262,7 @@ call-returns-then-e-s t c =
     named_none keeping a.base (st a.out.now a.n) (record_of a.left a.role) a.s.now c.in-To.e c.read_name-reach.ensures c.in-To.is c.if-e-s.true
 
 pub call-slice_bounds-list-count : goal.call-slice_bounds-list-count
-call-slice_bounds-list-count t c = ((name-within c.args.s.now c.in-To.e c.read_name-reach.ensures c.in-To.is)).1
+call-slice_bounds-list-count t c = (name-within c.args.s.now c.in-To.e c.read_name-reach.ensures c.in-To.is).1
 
 pub call-slice_bounds-list-start : goal.call-slice_bounds-list-start
 call-slice_bounds-list-start t c = omega (arith, (name-within c.args.s.now c.in-To.e c.read_name-reach.ensures c.in-To.is))
@@ -307,7 +287,7 @@ pub choice-read_label-reach-requires : goal.choice-read_label-reach-requires
 choice-read_label-reach-requires t c = omega (arith, c.requires)
 
 pub choice-slice_bounds-options-count : goal.choice-slice_bounds-options-count
-choice-slice_bounds-options-count t c = ((label-fits c.args.s.now c.read_label-reach.ensures c.in-To.e c.in-To.is)).1
+choice-slice_bounds-options-count t c = (label-fits c.args.s.now c.read_label-reach.ensures c.in-To.e c.in-To.is).1
 
 pub choice-slice_bounds-options-start : goal.choice-slice_bounds-options-start
 choice-slice_bounds-options-start t c = omega (arith, (label-fits c.args.s.now c.read_label-reach.ensures c.in-To.e c.in-To.is))
@@ -330,7 +310,7 @@ choice-returns-in-To t c =
     choice-told a.base a.n a.left a.s.now a.out.now c.read_label-reach.ensures (omega (arith, c.requires)) c.in-To.e c.in-To.is c.options-nodes.ensures put.0 put.1
 
 pub choice_nodes-slice_bounds-last_leaves-count : goal.choice_nodes-slice_bounds-last_leaves-count
-choice_nodes-slice_bounds-last_leaves-count t c = ((list-within c.args.s.now c.in-To.e c.read_list-reach.ensures c.in-To.is)).0
+choice_nodes-slice_bounds-last_leaves-count t c = (list-within c.args.s.now c.in-To.e c.read_list-reach.ensures c.in-To.is).0
 
 pub choice_nodes-slice_bounds-last_leaves-start : goal.choice_nodes-slice_bounds-last_leaves-start
 choice_nodes-slice_bounds-last_leaves-start t c = omega (arith, (list-within c.args.s.now c.in-To.e c.read_list-reach.ensures c.in-To.is))
@@ -367,21 +347,18 @@ pub conditional-first-piece-requires : goal.conditional-first-piece-requires
 conditional-first-piece-requires t c = omega (arith, c.decreases, c.requires)
 
 pub conditional-slice_bounds-arms-count : goal.conditional-slice_bounds-arms-count
-conditional-slice_bounds-arms-count t c = ((let fact : (5 ≤ c.in-To.e) × (c.in-To.e ≤ length c.args.s.now) = let a = c.args in
-    first_fits keeping a.base (st a.out.now a.n) (record_of a.left Cond) a.s.now c.first-piece.ensures c.in-To.e c.in-To.m c.in-To.is in fact)).1
+conditional-slice_bounds-arms-count t c = (first_fits keeping c.args.base (st c.args.out.now c.args.n) (record_of c.args.left Cond) c.args.s.now c.first-piece.ensures c.in-To.e c.in-To.m c.in-To.is).1
 
 pub conditional-slice_bounds-arms-start : goal.conditional-slice_bounds-arms-start
 conditional-slice_bounds-arms-start t c = omega (
   arith,
-  (let fact : (5 ≤ c.in-To.e) × (c.in-To.e ≤ length c.args.s.now) = let a = c.args in
-      first_fits keeping a.base (st a.out.now a.n) (record_of a.left Cond) a.s.now c.first-piece.ensures c.in-To.e c.in-To.m c.in-To.is in fact),
+  (first_fits keeping c.args.base (st c.args.out.now c.args.n) (record_of c.args.left Cond) c.args.s.now c.first-piece.ensures c.in-To.e c.in-To.m c.in-To.is),
 )
 
 pub conditional-overflow_add-base : goal.conditional-overflow_add-base
 conditional-overflow_add-base t c = omega (
   arith,
-  (let fact : (5 ≤ c.in-To.e) × (c.in-To.e ≤ length c.args.s.now) = let a = c.args in
-      first_fits keeping a.base (st a.out.now a.n) (record_of a.left Cond) a.s.now c.first-piece.ensures c.in-To.e c.in-To.m c.in-To.is in fact),
+  (first_fits keeping c.args.base (st c.args.out.now c.args.n) (record_of c.args.left Cond) c.args.s.now c.first-piece.ensures c.in-To.e c.in-To.m c.in-To.is),
   c.requires,
 )
 
@@ -389,8 +366,7 @@ pub conditional-arms-requires : goal.conditional-arms-requires
 conditional-arms-requires t c =
     omega (
       arith,
-      (let fact : (5 ≤ c.in-To.e) × (c.in-To.e ≤ length c.args.s.now) = let a = c.args in
-          first_fits keeping a.base (st a.out.now a.n) (record_of a.left Cond) a.s.now c.first-piece.ensures c.in-To.e c.in-To.m c.in-To.is in fact),
+      (first_fits keeping c.args.base (st c.args.out.now c.args.n) (record_of c.args.left Cond) c.args.s.now c.first-piece.ensures c.in-To.e c.in-To.m c.in-To.is),
       length-take {A = ℕ},
       length-drop {A = ℕ},
       c.decreases,
@@ -459,24 +435,18 @@ exact-returns-in-Refused t c =
 pub exact-overflow_add-at : goal.exact-overflow_add-at
 exact-overflow_add-at t c = omega (
   arith,
-  (let fact : (5 ≤ c.in-To.e) × (c.in-To.e ≤ length c.loop-more.t.now) = let a = c.args in
-      let l = c.loop-more in
-      first_fits keeping l.at (st l.out l.count) (record_of a.left a.role) l.t.now c.first-piece.ensures c.in-To.e c.in-To.m c.in-To.is in fact),
+  (first_fits keeping c.loop-more.at (st c.loop-more.out c.loop-more.count) (record_of c.args.left c.args.role) c.loop-more.t.now c.first-piece.ensures c.in-To.e c.in-To.m c.in-To.is),
   c.loop-more.invariant.0,
   c.requires,
 )
 
 pub exact-slice_bounds-t-count : goal.exact-slice_bounds-t-count
-exact-slice_bounds-t-count t c = ((let fact : (5 ≤ c.in-To.e) × (c.in-To.e ≤ length c.loop-more.t.now) = let a = c.args in
-    let l = c.loop-more in
-    first_fits keeping l.at (st l.out l.count) (record_of a.left a.role) l.t.now c.first-piece.ensures c.in-To.e c.in-To.m c.in-To.is in fact)).1
+exact-slice_bounds-t-count t c = (first_fits keeping c.loop-more.at (st c.loop-more.out c.loop-more.count) (record_of c.args.left c.args.role) c.loop-more.t.now c.first-piece.ensures c.in-To.e c.in-To.m c.in-To.is).1
 
 pub exact-slice_bounds-t-start : goal.exact-slice_bounds-t-start
 exact-slice_bounds-t-start t c = omega (
   arith,
-  (let fact : (5 ≤ c.in-To.e) × (c.in-To.e ≤ length c.loop-more.t.now) = let a = c.args in
-      let l = c.loop-more in
-      first_fits keeping l.at (st l.out l.count) (record_of a.left a.role) l.t.now c.first-piece.ensures c.in-To.e c.in-To.m c.in-To.is in fact),
+  (first_fits keeping c.loop-more.at (st c.loop-more.out c.loop-more.count) (record_of c.args.left c.args.role) c.loop-more.t.now c.first-piece.ensures c.in-To.e c.in-To.m c.in-To.is),
 )
 
 pub exact-overflow_sub-more : goal.exact-overflow_sub-more
@@ -492,9 +462,7 @@ exact-loop-more-preserved t c =
     let piece = c.first-piece in (
       omega (
         arith,
-        (let fact : (5 ≤ c.in-To.e) × (c.in-To.e ≤ length c.loop-more.t.now) = let a = c.args in
-            let l = c.loop-more in
-            first_fits keeping l.at (st l.out l.count) (record_of a.left a.role) l.t.now c.first-piece.ensures c.in-To.e c.in-To.m c.in-To.is in fact),
+        (first_fits keeping c.loop-more.at (st c.loop-more.out c.loop-more.count) (record_of c.args.left c.args.role) c.loop-more.t.now c.first-piece.ensures c.in-To.e c.in-To.m c.in-To.is),
         length-take {A = ℕ},
         length-drop {A = ℕ},
         l.invariant.0,
@@ -516,7 +484,7 @@ first-returns-then-is_bare t c =
     bare-answers a.base a.out.now a.n c.wrapping_add_usize.ensures.value a.left a.role a.s.now c.in-To.kind c.in-To.e (c.is_bare.ensures c.if-is_bare.true) c.read_head-head.ensures c.in-To.is
 
 pub first-slice_bounds-record-count : goal.first-slice_bounds-record-count
-first-slice_bounds-record-count t c = ((head-within c.args.s.now c.in-To.kind c.in-To.e c.read_head-head.ensures c.in-To.is)).0
+first-slice_bounds-record-count t c = (head-within c.args.s.now c.in-To.kind c.in-To.e c.read_head-head.ensures c.in-To.is).0
 
 pub first-slice_bounds-record-start : goal.first-slice_bounds-record-start
 first-slice_bounds-record-start t c = omega (arith, (head-within c.args.s.now c.in-To.kind c.in-To.e c.read_head-head.ensures c.in-To.is))
@@ -539,7 +507,7 @@ first-returns-else-is_bare t c =
     first-answers keeping a.base (st a.out.now a.n) (record_of a.left a.role) a.s.now c.in-To.kind c.in-To.e c.read_head-head.ensures c.in-To.is c.record-w.ensures c.piece_to.ensures
 
 pub front_list-slice_bounds-list-count : goal.front_list-slice_bounds-list-count
-front_list-slice_bounds-list-count t c = ((list-within c.args.s.now c.in-To.e c.read_list-reach.ensures c.in-To.is)).0
+front_list-slice_bounds-list-count t c = (list-within c.args.s.now c.in-To.e c.read_list-reach.ensures c.in-To.is).0
 
 pub front_list-slice_bounds-list-start : goal.front_list-slice_bounds-list-start
 front_list-slice_bounds-list-start t c = omega (arith, (list-within c.args.s.now c.in-To.e c.read_list-reach.ensures c.in-To.is))
@@ -564,7 +532,7 @@ front_list-returns-in-To t c =
     list-answers keeping a.base (st a.out.now a.n) (record_of a.left a.role) a.s.now c.in-To.e c.read_list-reach.ensures c.in-To.is c.list-w.ensures c.piece_to.ensures
 
 pub last-slice_bounds-list-count : goal.last-slice_bounds-list-count
-last-slice_bounds-list-count t c = ((list-within c.args.s.now c.in-To.e c.read_list-reach.ensures c.in-To.is)).0
+last-slice_bounds-list-count t c = (list-within c.args.s.now c.in-To.e c.read_list-reach.ensures c.in-To.is).0
 
 pub last-slice_bounds-list-start : goal.last-slice_bounds-list-start
 last-slice_bounds-list-start t c = omega (arith, (list-within c.args.s.now c.in-To.e c.read_list-reach.ensures c.in-To.is))
@@ -617,7 +585,7 @@ pub last_leaves-overflow_add-at : goal.last_leaves-overflow_add-at
 last_leaves-overflow_add-at t c = omega (arith, (head-within c.loop-t.t.now c.in-To.kind c.in-To.e c.read_head-head.ensures c.in-To.is), c.loop-t.invariant.0, c.requires)
 
 pub last_leaves-slice_bounds-t-count : goal.last_leaves-slice_bounds-t-count
-last_leaves-slice_bounds-t-count t c = ((head-within c.loop-t.t.now c.in-To.kind c.in-To.e c.read_head-head.ensures c.in-To.is)).1
+last_leaves-slice_bounds-t-count t c = (head-within c.loop-t.t.now c.in-To.kind c.in-To.e c.read_head-head.ensures c.in-To.is).1
 
 pub last_leaves-slice_bounds-t-start : goal.last_leaves-slice_bounds-t-start
 last_leaves-slice_bounds-t-start t c = omega (arith, (head-within c.loop-t.t.now c.in-To.kind c.in-To.e c.read_head-head.ensures c.in-To.is))
@@ -637,7 +605,7 @@ last_leaves-loop-t-preserved-then-is_bare t c =
     )
 
 pub last_leaves-slice_bounds-record-count : goal.last_leaves-slice_bounds-record-count
-last_leaves-slice_bounds-record-count t c = ((head-within c.loop-t.t.now c.in-To.kind c.in-To.e c.read_head-head.ensures c.in-To.is)).0
+last_leaves-slice_bounds-record-count t c = (head-within c.loop-t.t.now c.in-To.kind c.in-To.e c.read_head-head.ensures c.in-To.is).0
 
 pub last_leaves-slice_bounds-record-start : goal.last_leaves-slice_bounds-record-start
 last_leaves-slice_bounds-record-start t c = omega (arith, (head-within c.loop-t.t.now c.in-To.kind c.in-To.e c.read_head-head.ensures c.in-To.is))
@@ -660,7 +628,7 @@ pub last_leaves-overflow_add-at-in-Done : goal.last_leaves-overflow_add-at-in-Do
 last_leaves-overflow_add-at-in-Done t c = omega (arith, (head-within c.loop-t.t.now c.in-To.kind c.in-To.e c.read_head-head.ensures c.in-To.is), c.loop-t.invariant.0, c.requires)
 
 pub last_leaves-slice_bounds-t-count-in-Done : goal.last_leaves-slice_bounds-t-count-in-Done
-last_leaves-slice_bounds-t-count-in-Done t c = ((head-within c.loop-t.t.now c.in-To.kind c.in-To.e c.read_head-head.ensures c.in-To.is)).1
+last_leaves-slice_bounds-t-count-in-Done t c = (head-within c.loop-t.t.now c.in-To.kind c.in-To.e c.read_head-head.ensures c.in-To.is).1
 
 pub last_leaves-slice_bounds-t-start-in-Done : goal.last_leaves-slice_bounds-t-start-in-Done
 last_leaves-slice_bounds-t-start-in-Done t c = omega (arith, (head-within c.loop-t.t.now c.in-To.kind c.in-To.e c.read_head-head.ensures c.in-To.is))
@@ -701,7 +669,7 @@ pub list-overflow_add-at : goal.list-overflow_add-at
 list-overflow_add-at t c = omega (arith, (head-within c.loop-t.t.now c.in-To.kind c.in-To.e c.read_head-head.ensures c.in-To.is), c.loop-t.invariant.0, c.requires)
 
 pub list-slice_bounds-t-count : goal.list-slice_bounds-t-count
-list-slice_bounds-t-count t c = ((head-within c.loop-t.t.now c.in-To.kind c.in-To.e c.read_head-head.ensures c.in-To.is)).1
+list-slice_bounds-t-count t c = (head-within c.loop-t.t.now c.in-To.kind c.in-To.e c.read_head-head.ensures c.in-To.is).1
 
 pub list-slice_bounds-t-start : goal.list-slice_bounds-t-start
 list-slice_bounds-t-start t c = omega (arith, (head-within c.loop-t.t.now c.in-To.kind c.in-To.e c.read_head-head.ensures c.in-To.is))
@@ -720,7 +688,7 @@ list-loop-t-preserved-then-is_bare t c =
     )
 
 pub list-slice_bounds-record-count : goal.list-slice_bounds-record-count
-list-slice_bounds-record-count t c = ((head-within c.loop-t.t.now c.in-To.kind c.in-To.e c.read_head-head.ensures c.in-To.is)).0
+list-slice_bounds-record-count t c = (head-within c.loop-t.t.now c.in-To.kind c.in-To.e c.read_head-head.ensures c.in-To.is).0
 
 pub list-slice_bounds-record-start : goal.list-slice_bounds-record-start
 list-slice_bounds-record-start t c = omega (arith, (head-within c.loop-t.t.now c.in-To.kind c.in-To.e c.read_head-head.ensures c.in-To.is))
@@ -743,7 +711,7 @@ pub list-overflow_add-at-in-To : goal.list-overflow_add-at-in-To
 list-overflow_add-at-in-To t c = omega (arith, (head-within c.loop-t.t.now c.in-To.kind c.in-To.e c.read_head-head.ensures c.in-To.is), c.loop-t.invariant.0, c.requires)
 
 pub list-slice_bounds-t-count-in-To : goal.list-slice_bounds-t-count-in-To
-list-slice_bounds-t-count-in-To t c = ((head-within c.loop-t.t.now c.in-To.kind c.in-To.e c.read_head-head.ensures c.in-To.is)).1
+list-slice_bounds-t-count-in-To t c = (head-within c.loop-t.t.now c.in-To.kind c.in-To.e c.read_head-head.ensures c.in-To.is).1
 
 pub list-slice_bounds-t-start-in-To : goal.list-slice_bounds-t-start-in-To
 list-slice_bounds-t-start-in-To t c = omega (arith, (head-within c.loop-t.t.now c.in-To.kind c.in-To.e c.read_head-head.ensures c.in-To.is))
@@ -777,7 +745,7 @@ lists-returns-in-Refused t c =
     rw l.invariant.1 (pieces-refused keeping l.at (st l.out l.count) (records (record_of a.left Node)) l.t.now c.loop-t-test.true c.read_list-reach.ensures c.in-Refused.r c.in-Refused.is)
 
 pub lists-slice_bounds-list-count : goal.lists-slice_bounds-list-count
-lists-slice_bounds-list-count t c = ((list-within c.loop-t.t.now c.in-To.e c.read_list-reach.ensures c.in-To.is)).0
+lists-slice_bounds-list-count t c = (list-within c.loop-t.t.now c.in-To.e c.read_list-reach.ensures c.in-To.is).0
 
 pub lists-slice_bounds-list-start : goal.lists-slice_bounds-list-start
 lists-slice_bounds-list-start t c = omega (arith, (list-within c.loop-t.t.now c.in-To.e c.read_list-reach.ensures c.in-To.is))
@@ -802,7 +770,7 @@ pub lists-overflow_add-at-in-To : goal.lists-overflow_add-at-in-To
 lists-overflow_add-at-in-To t c = omega (arith, (list-within c.loop-t.t.now c.in-To.e c.read_list-reach.ensures c.in-To.is), c.loop-t.invariant.0, c.requires)
 
 pub lists-slice_bounds-t-count : goal.lists-slice_bounds-t-count
-lists-slice_bounds-t-count t c = ((list-within c.loop-t.t.now c.in-To.e c.read_list-reach.ensures c.in-To.is)).1
+lists-slice_bounds-t-count t c = (list-within c.loop-t.t.now c.in-To.e c.read_list-reach.ensures c.in-To.is).1
 
 pub lists-slice_bounds-t-start : goal.lists-slice_bounds-t-start
 lists-slice_bounds-t-start t c = omega (arith, (list-within c.loop-t.t.now c.in-To.e c.read_list-reach.ensures c.in-To.is))
@@ -826,7 +794,7 @@ lists-returns t c =
     rw l.invariant.1 (pieces_none keeping l.at (st l.out l.count) (records (record_of a.left Node)) l.t.now c.loop-t-test.false)
 
 pub options-slice_bounds-list-count : goal.options-slice_bounds-list-count
-options-slice_bounds-list-count t c = ((list-within c.args.s.now c.in-To.e c.read_list-reach.ensures c.in-To.is)).0
+options-slice_bounds-list-count t c = (list-within c.args.s.now c.in-To.e c.read_list-reach.ensures c.in-To.is).0
 
 pub options-slice_bounds-list-start : goal.options-slice_bounds-list-start
 options-slice_bounds-list-start t c = omega (arith, (list-within c.args.s.now c.in-To.e c.read_list-reach.ensures c.in-To.is))
@@ -929,21 +897,18 @@ pub switch-first-piece-requires : goal.switch-first-piece-requires
 switch-first-piece-requires t c = omega (arith, c.decreases, c.requires)
 
 pub switch-slice_bounds-branches-count : goal.switch-slice_bounds-branches-count
-switch-slice_bounds-branches-count t c = ((let fact : (5 ≤ c.in-To.e) × (c.in-To.e ≤ length c.args.s.now) = let a = c.args in
-    first_fits keeping a.base (st a.out.now a.n) (record_of a.left Visited) a.s.now c.first-piece.ensures c.in-To.e c.in-To.m c.in-To.is in fact)).1
+switch-slice_bounds-branches-count t c = (first_fits keeping c.args.base (st c.args.out.now c.args.n) (record_of c.args.left Visited) c.args.s.now c.first-piece.ensures c.in-To.e c.in-To.m c.in-To.is).1
 
 pub switch-slice_bounds-branches-start : goal.switch-slice_bounds-branches-start
 switch-slice_bounds-branches-start t c = omega (
   arith,
-  (let fact : (5 ≤ c.in-To.e) × (c.in-To.e ≤ length c.args.s.now) = let a = c.args in
-      first_fits keeping a.base (st a.out.now a.n) (record_of a.left Visited) a.s.now c.first-piece.ensures c.in-To.e c.in-To.m c.in-To.is in fact),
+  (first_fits keeping c.args.base (st c.args.out.now c.args.n) (record_of c.args.left Visited) c.args.s.now c.first-piece.ensures c.in-To.e c.in-To.m c.in-To.is),
 )
 
 pub switch-overflow_add-base : goal.switch-overflow_add-base
 switch-overflow_add-base t c = omega (
   arith,
-  (let fact : (5 ≤ c.in-To.e) × (c.in-To.e ≤ length c.args.s.now) = let a = c.args in
-      first_fits keeping a.base (st a.out.now a.n) (record_of a.left Visited) a.s.now c.first-piece.ensures c.in-To.e c.in-To.m c.in-To.is in fact),
+  (first_fits keeping c.args.base (st c.args.out.now c.args.n) (record_of c.args.left Visited) c.args.s.now c.first-piece.ensures c.in-To.e c.in-To.m c.in-To.is),
   c.requires,
 )
 
@@ -951,8 +916,7 @@ pub switch-branches-requires : goal.switch-branches-requires
 switch-branches-requires t c =
     omega (
       arith,
-      (let fact : (5 ≤ c.in-To.e) × (c.in-To.e ≤ length c.args.s.now) = let a = c.args in
-          first_fits keeping a.base (st a.out.now a.n) (record_of a.left Visited) a.s.now c.first-piece.ensures c.in-To.e c.in-To.m c.in-To.is in fact),
+      (first_fits keeping c.args.base (st c.args.out.now c.args.n) (record_of c.args.left Visited) c.args.s.now c.first-piece.ensures c.in-To.e c.in-To.m c.in-To.is),
       length-take {A = ℕ},
       length-drop {A = ℕ},
       c.decreases,

@@ -7,10 +7,10 @@ use Rattle.records.proofs.Walking.{named-refused, named-on, told-end}
 use Rattle.records.proofs.walker.single.Goals as goal
 
 pub slice_bounds-at_end-count : goal.slice_bounds-at_end-count
-slice_bounds-at_end-count c = omega (arith, (let fact : (1 ≤ c.in-To.e) × (c.in-To.e ≤ length c.args.s.now) = name-within c.args.s.now c.in-To.e c.read_name-reach.ensures c.in-To.is in fact))
+slice_bounds-at_end-count c = omega (arith, (name-within c.args.s.now c.in-To.e c.read_name-reach.ensures c.in-To.is))
 
 pub slice_bounds-at_end-start : goal.slice_bounds-at_end-start
-slice_bounds-at_end-start c = omega (arith, (let fact : (1 ≤ c.in-To.e) × (c.in-To.e ≤ length c.args.s.now) = name-within c.args.s.now c.in-To.e c.read_name-reach.ensures c.in-To.is in fact))
+slice_bounds-at_end-start c = omega (arith, (name-within c.args.s.now c.in-To.e c.read_name-reach.ensures c.in-To.is))
 
 pub returns-in-Refused : goal.returns-in-Refused
 returns-in-Refused c =

@@ -17,12 +17,12 @@ returns-in_default c =
     rw l.invariant.1 (reach-refused c.args.s.now l.left l.e c.in_default.field-0 c.loop-left-test.true c.read_name-reach.ensures c.in_default.is)
 
 pub overflow_add-e : goal.overflow_add-e
-overflow_add-e c = omega (arith, (let fact : c.loop-left.e + c.in-To.to ≤ length c.args.s.now = omega (arith, name-within _ c.in-To.to c.read_name-reach.ensures c.in-To.is, length-take {A = ℕ}, length-drop {A = ℕ}, c.loop-left.invariant.0) in fact))
+overflow_add-e c = omega (arith, name-within _ c.in-To.to c.read_name-reach.ensures c.in-To.is, length-take {A = ℕ}, length-drop {A = ℕ}, c.loop-left.invariant.0)
 
 pub loop-left-preserved : goal.loop-left-preserved
 loop-left-preserved c =
     let l = c.loop-left in
-    ((let fact : c.loop-left.e + c.in-To.to ≤ length c.args.s.now = omega (arith, name-within _ c.in-To.to c.read_name-reach.ensures c.in-To.is, length-take {A = ℕ}, length-drop {A = ℕ}, c.loop-left.invariant.0) in fact), l.invariant.1 ∙ reach-on c.args.s.now l.left l.e c.in-To.to c.loop-left-test.true c.read_name-reach.ensures c.in-To.is)
+    (omega (arith, name-within _ c.in-To.to c.read_name-reach.ensures c.in-To.is, length-take {A = ℕ}, length-drop {A = ℕ}, c.loop-left.invariant.0), l.invariant.1 ∙ reach-on c.args.s.now l.left l.e c.in-To.to c.loop-left-test.true c.read_name-reach.ensures c.in-To.is)
 
 pub returns : goal.returns
 returns c = rw c.loop-left.invariant.1 (reach-end c.args.s.now c.loop-left.left c.loop-left.e c.loop-left-test.false)
