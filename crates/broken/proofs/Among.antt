@@ -31,14 +31,14 @@ whats-take file (suc n) [] = refl
 whats-take file (suc n) (x ∷ items) = ap (λ (l : List What). (item_in file x).what ∷ l) (whats-take file n items)
 
 module _ (file items : List ℕ) (n : Bytes) {r : Bool} where
-  pub label-among : r ≡ found_among sought.Label (whats (items_at file (take (length items) items))) n → r ≡ label_in (items_at file items) n
+  pub labels_among : r ≡ found_among sought.Label (whats (items_at file (take (length items) items))) n → r ≡ label_in (items_at file items) n
   unfolding found_among bears of_sort
-  label-among e = rw (whole items) at e
+  labels_among e = rw (whole items) at e
 
-  pub temp-among : r ≡ found_among sought.Temp (whats (items_at file (take (length items) items))) n → r ≡ temp_in (items_at file items) n
+  pub temps_among : r ≡ found_among sought.Temp (whats (items_at file (take (length items) items))) n → r ≡ temp_in (items_at file items) n
   unfolding found_among bears of_sort
-  temp-among e = rw (whole items) at e
+  temps_among e = rw (whole items) at e
 
-  pub gather-among : (i : ℕ) → r ≡ found_among sought.Gather (whats (items_at file (take i items))) n → r ≡ gather_among (take i (whats (items_at file items))) n
+  pub gathers-among : (i : ℕ) → r ≡ found_among sought.Gather (whats (items_at file (take i items))) n → r ≡ gather_among (take i (whats (items_at file items))) n
   unfolding found_among bears of_sort
-  gather-among i e = rw (whats-take file i items) at e
+  gathers-among i e = rw (whats-take file i items) at e

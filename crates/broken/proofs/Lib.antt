@@ -1,3 +1,3 @@
 -- What the proofs of several functions use, and the laws that other crates cite.
-pub mod Asked
+pub mod Answered
 pub mod Among

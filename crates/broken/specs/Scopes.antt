@@ -14,7 +14,8 @@ use Rattle.symbols.specs.Index.{entries}
 use Rattle.symbols.specs.Placed.{placed}
 use Rattle.sets.specs.Members.{Members}
 use Rattle.items.specs.declared.named.Sought.TheVariants as sought
-use Rattle.rules.specs.Rules.{Known, Here, known}
+use Rattle.rules.specs.declared.Rule.{Rule}
+use Rattle.rules.specs.Rules.{Known, Here, known, broken}
 use Rattle.broken.specs.declared.Scope.{Scope}
 use Rattle.broken.specs.declared.Rests.{Rests}
 use Rattle.broken.specs.declared.At.{At}
@@ -81,10 +82,8 @@ pub record BodySet (file kept : List ℕ) (v : Scope) (n : Rests) (number : ℕ)
   pub temps : Members sought.Temp file 1 (body_run kept v) (length (body_run kept v)) set n.own
   pub gathers : Members sought.Gather file 2 (body_run kept v) number set n.gathers
 
--- all that a rule may ask at a thing is ready
-pub record Ready (file kept names targets knot body : List ℕ) (at : At) : Type 0 where
-  pub names_ready : NamesReady file at.story names
-  pub targets_ready : TargetsReady file at.story kept targets
+-- all that a rule may ask at a thing of a story that is ready is ready
+pub record Ready (file kept knot body : List ℕ) (at : At) : Type 0 where
   pub scope_ready : ScopeReady file kept at.scope
   pub knot_set : KnotSet file kept at.scope at.rests knot
   pub body_set : BodySet file kept at.scope at.rests at.number body
@@ -92,3 +91,7 @@ pub record Ready (file kept names targets knot body : List ℕ) (at : At) : Type
 -- what the items of the body before the thing are
 abbrev pub before_at : List ℕ → List ℕ → At → List What
 before_at file kept at = take at.number (whats (items_at file (body_run kept at.scope)))
+
+-- the rule is broken at a thing that stands there
+abbrev pub broken_at : Sections → List ℕ → List ℕ → At → Rule → What → Bool
+broken_at sections file kept at r w = broken (known_in sections file) (here_in file kept at.scope) (before_at file kept at) r w

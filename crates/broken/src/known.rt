@@ -1,56 +1,94 @@
-// The names of the whole story: functions, flows, globals, externals and targets, as the rules ask for them.
-ghost use Rattle.std.specs.Prelude.{◌≡◌};
-ghost use Rattle.broken.specs.Scopes.{known_in, NamesReady, TargetsReady};
+// Names as the rules ask for them: of the whole story its functions, flows, globals, externals and targets; of the flow or the stitch at hand its
+// parameters.
+ghost use Rattle.std.specs.Prelude.{◌≡◌, ◌≤◌, length};
+ghost use Rattle.names.specs.Counted as counted;
+ghost use Rattle.broken.specs.Scopes.{known_in, counted_at};
 
-use crate::StoryView;
+use crate::asked::Asked;
 use enumerator::entries::has_target;
-use names::is_reserved;
+use names::{is_reserved, name_at};
+use searches::counted_has_name;
 
-// The name is a function's.
-pub fn is_function(file: &[u8], names: &[u32], v: StoryView, name: &[u8]) -> bool
-    requires { NamesReady file.now v names.now }
-    ensures { result ≡ (known_in v.sections file.now).function name.now }
+// The name is one of those that the count byte at the place counts.
+pub fn is_counted(file: &[u8], at: usize, name: &[u8]) -> bool
+    requires { at ≤ length file.now }
+    ensures { result ≡ counted_at file.now at name.now }
 {
-    sets::known::is_function(file, v.sections, names, v.names, name)
+    counted_has_name(&file[at..], name)
 }
 
-// The name is a flow's.
-pub fn is_flow(file: &[u8], names: &[u32], v: StoryView, name: &[u8]) -> bool
-    requires { NamesReady file.now v names.now }
-    ensures { result ≡ (known_in v.sections file.now).flow name.now }
-{
-    sets::known::is_flow(file, v.sections, names, v.names, name)
-}
-
-// The name is a global's.
-pub fn is_global(file: &[u8], names: &[u32], v: StoryView, name: &[u8]) -> bool
-    requires { NamesReady file.now v names.now }
-    ensures { result ≡ (known_in v.sections file.now).global name.now }
-{
-    sets::known::is_global(file, v.sections, names, v.names, name)
-}
-
-// The name is an external's.
-pub fn is_external(file: &[u8], names: &[u32], v: StoryView, name: &[u8]) -> bool
-    requires { NamesReady file.now v names.now }
-    ensures { result ≡ (known_in v.sections file.now).external name.now }
-{
-    sets::known::is_external(file, v.sections, names, v.names, name)
-}
-
-// The target is valid, or some spelling ends in "." and the target: by the set, or by going through the entries where one is not in it.
-pub fn is_target(file: &[u8], kept: &[u32], targets: &[u64], v: StoryView, target: &[u8]) -> bool
-    requires { TargetsReady file.now v kept.now targets.now }
-    ensures { result ≡ (known_in v.sections file.now).target target.now }
-{
-    if is_reserved(target) {
-        return true;
+impl<'a> Asked<'_, 'a> {
+    // The thing's name.
+    pub(crate) fn name(&self) -> &'a [u8]
+        ensures { result.now ≡ counted.name_at self.now.story.now.file.now self.now.at.thing.name }
+    {
+        name_at(self.story.file, self.at.thing.name)
     }
-    if targets::has(file, targets, target) {
-        return true;
+
+    // The name is a function's.
+    #[tactic(auto, using(crate::proofs::Answered::function_asked))]
+    pub(crate) fn is_function(&self, name: &[u8]) -> bool
+        ensures { result ≡ (known_in self.now.story.now.view.sections self.now.story.now.file.now).function name.now }
+    {
+        let v = self.story.view;
+        sets::known::is_function(self.story.file, v.sections, self.story.names, v.names, name)
     }
-    if v.left {
-        return has_target(file, v.sections, kept, target);
+
+    // The name is a flow's.
+    #[tactic(auto, using(crate::proofs::Answered::flow_asked))]
+    pub(crate) fn is_flow(&self, name: &[u8]) -> bool
+        ensures { result ≡ (known_in self.now.story.now.view.sections self.now.story.now.file.now).flow name.now }
+    {
+        let v = self.story.view;
+        sets::known::is_flow(self.story.file, v.sections, self.story.names, v.names, name)
     }
-    false
+
+    // The name is a global's.
+    #[tactic(auto, using(crate::proofs::Answered::global_asked))]
+    pub(crate) fn is_global(&self, name: &[u8]) -> bool
+        ensures { result ≡ (known_in self.now.story.now.view.sections self.now.story.now.file.now).global name.now }
+    {
+        let v = self.story.view;
+        sets::known::is_global(self.story.file, v.sections, self.story.names, v.names, name)
+    }
+
+    // The name is an external's.
+    #[tactic(auto, using(crate::proofs::Answered::external_asked))]
+    pub(crate) fn is_external(&self, name: &[u8]) -> bool
+        ensures { result ≡ (known_in self.now.story.now.view.sections self.now.story.now.file.now).external name.now }
+    {
+        let v = self.story.view;
+        sets::known::is_external(self.story.file, v.sections, self.story.names, v.names, name)
+    }
+
+    // The target is valid, or some spelling ends in "." and the target: by the set, or by going through the entries where one is not in it.
+    pub(crate) fn is_target(&self, target: &[u8]) -> bool
+        ensures { result ≡ (known_in self.now.story.now.view.sections self.now.story.now.file.now).target target.now }
+    {
+        let v = self.story.view;
+        if is_reserved(target) {
+            return true;
+        }
+        if targets::has(self.story.file, self.story.targets, target) {
+            return true;
+        }
+        if v.left {
+            return has_target(self.story.file, v.sections, self.story.kept, target);
+        }
+        false
+    }
+
+    // The name is a parameter of the flow or the stitch.
+    pub(crate) fn is_parameter(&self, name: &[u8]) -> bool
+        ensures { result ≡ counted_at self.now.story.now.file.now self.now.at.scope.params name.now }
+    {
+        is_counted(self.story.file, self.at.scope.params, name)
+    }
+
+    // The name is a divert parameter of the flow or the stitch.
+    pub(crate) fn is_marked(&self, name: &[u8]) -> bool
+        ensures { result ≡ counted_at self.now.story.now.file.now self.now.at.scope.marks name.now }
+    {
+        is_counted(self.story.file, self.at.scope.marks, name)
+    }
 }

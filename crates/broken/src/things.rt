@@ -14,22 +14,18 @@ pub const STITCH_NAME: u8 = 11;
 
 pub const FLOW_START: u8 = 12;
 
-// The thing is of the sort.
-pub fn is_sort(t: Thing, sort: u8) -> bool
-    ensures { result ≡ eqb sort t.sort }
-{
-    sort == t.sort
-}
+impl Thing {
+    // The thing is of the sort.
+    pub fn is(&self, sort: u8) -> bool
+        ensures { result ≡ eqb sort self.now.sort }
+    {
+        sort == self.sort
+    }
 
-// The thing has a target: it is a divert, a tunnel or a thread.
-pub fn has_target(t: Thing) -> bool
-    ensures { (file : List ℕ) (w : What) → ThingIs file t w → result ≡ target w }
-{
-    if is_sort(t, DIVERT) {
-        return true;
+    // The thing has a target: it is a divert, a tunnel or a thread.
+    pub fn has_target(&self) -> bool
+        ensures { (file : List ℕ) (w : What) → ThingIs file self.now w → result ≡ target w }
+    {
+        self.is(DIVERT) || self.is(TUNNEL) || self.is(THREAD)
     }
-    if is_sort(t, TUNNEL) {
-        return true;
-    }
-    is_sort(t, THREAD)
 }

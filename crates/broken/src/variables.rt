@@ -1,24 +1,22 @@
 // Variables of a stitch: rule 15 (variables.rs).
-ghost use Rattle.std.specs.Prelude.{◌≡◌, List, ◌≤◌, length};
+ghost use Rattle.std.specs.Prelude.{◌≡◌, ◌≤◌, length};
 ghost use Rattle.records.specs.Items.{What};
 ghost use Rattle.story.specs.Flows.{part};
 ghost use Rattle.items.specs.declared.named.Sought.TheVariants as sought;
 ghost use Rattle.sets.specs.Members.{Members};
 ghost use Rattle.rules.specs.declared.Rule.TheVariants as Rule;
-ghost use Rattle.rules.specs.Rules.{Known, broken};
 ghost use Rattle.broken.specs.Things.{ThingIs};
-ghost use Rattle.broken.specs.Scopes.{here_in, declared_in, ScopeReady, KnotSet, BodySet};
+ghost use Rattle.broken.specs.Scopes.{declared_in, broken_at};
 
-use crate::structure::TEMPS;
-use crate::things::is_sort;
-use crate::{Rests, Scope, Thing};
+use crate::asked::Asked;
+use crate::known::is_counted;
 use items::named::Sought;
-use names::name_at;
 use records::sorts::VARIABLE;
-use searches::counted_has_name;
+use sets::Class;
 use sets::members::has_among;
 
 // The name is a parameter or a temp of the flow or the stitch with these parameters and this run of items.
+#[tactic(auto, using(crate::proofs::Among::temps_among), unfolding(story::specs::Flows::part))]
 fn is_declared(
     file: &[u8],
     kept: &[u32],
@@ -33,7 +31,7 @@ fn is_declared(
     requires members { Members sought.Temp file.now 1 (part first last kept.now) (length (part first last kept.now)) set.now rest }
     ensures { result ≡ declared_in file.now kept.now params first last name.now }
 {
-    if counted_has_name(&file[params..], name) {
+    if is_counted(file, params, name) {
         return true;
     }
     let items = &kept[first..last];
@@ -43,51 +41,44 @@ fn is_declared(
         items,
         items.len(),
         rest,
-        TEMPS,
+        Class::Temp,
         set,
         name,
     )
 }
 
-// Rule 15: a variable that the knot declares and the stitch does not.
-pub fn is_variable_forbidden(
-    file: &[u8],
-    kept: &[u32],
-    knot: &[u32],
-    body: &[u32],
-    scope: Scope,
-    n: Rests,
-    number: usize,
-    t: Thing,
-) -> bool
-    requires scope_ready { ScopeReady file.now kept.now scope }
-    requires knot_set { KnotSet file.now kept.now scope n knot.now }
-    requires body_set { BodySet file.now kept.now scope n number body.now }
-    ensures { (k : Known) (before : List What) (w : What) → ThingIs file.now t w → result ≡ broken k (here_in file.now kept.now scope) before Rule.VariableForbidden w }
-{
-    if is_sort(t, VARIABLE) {
-        let name = name_at(file, t.name);
-        if is_declared(
-            file,
-            kept,
-            knot,
-            scope.outer,
-            scope.knot,
-            scope.own,
-            n.temps,
-            name,
-        ) {
-            return !is_declared(
-                file,
-                kept,
-                body,
-                scope.params,
-                scope.first,
-                scope.last,
-                n.own,
+impl Asked<'_, '_> {
+    // Rule 15: a variable that the knot declares and the stitch does not.
+    #[tactic(auto, unfolding(rules::specs::Rules::broken, crate::specs::Scopes::here_in))]
+    pub(crate) fn is_variable_forbidden(&self) -> bool
+        ensures { (w : What) → ThingIs self.now.story.now.file.now self.now.at.thing w → result ≡ broken_at self.now.story.now.view.sections self.now.story.now.file.now self.now.story.now.kept.now self.now.at Rule.VariableForbidden w }
+    {
+        if self.at.thing.is(VARIABLE) {
+            let s = self.at.scope;
+            let n = self.at.rests;
+            let name = self.name();
+            if is_declared(
+                self.story.file,
+                self.story.kept,
+                self.knot,
+                s.outer,
+                s.knot,
+                s.own,
+                n.temps,
                 name,
-            );
+            ) {
+                return !is_declared(
+                    self.story.file,
+                    self.story.kept,
+                    self.body,
+                    s.params,
+                    s.first,
+                    s.last,
+                    n.own,
+                    name,
+                );
+            }
         }
+        false
     }
-    false
 }

@@ -20,7 +20,7 @@ use Rattle.symbols.specs.Index.{spellings}
 use Rattle.symbols.specs.Fits.{answers}
 use Rattle.symbols.specs.Rows as rows
 use Rattle.rules.specs.Rules.{known}
-use Rattle.checks.specs.Context.{known_in, Ready}
+use Rattle.checks.specs.Context.{known_in}
 
 -- 1. The names of the whole story
 
@@ -31,21 +31,21 @@ called-plain true n l = any-map (is_function n) flow_without_plain l
 called-plain false n l = any-map (is_flow n) flow_without_plain l
 
 module _ (file : List ℕ) (c : Sections) (n : Bytes) {r : Bool} where
-  pub function-asked : r ≡ any (is_function n) (story_in c file).flows → r ≡ (known_in c file).function n
+  pub function_asked : r ≡ any (is_function n) (story_in c file).flows → r ≡ (known_in c file).function n
   unfolding known without_plain
-  function-asked e = e ∙ sym (called-plain true n (story_in c file).flows)
+  function_asked e = e ∙ sym (called-plain true n (story_in c file).flows)
 
-  pub flow-asked : r ≡ any (is_flow n) (flows_in 0 (take (c.end - c.flows) (drop c.flows file))) → r ≡ (known_in c file).flow n
+  pub flow_asked : r ≡ any (is_flow n) (flows_in 0 (take (c.end - c.flows) (drop c.flows file))) → r ≡ (known_in c file).flow n
   unfolding known story_in without_plain
-  flow-asked e = flows-answer file n c.flows false c.end e ∙ sym (called-plain false n (story_in c file).flows)
+  flow_asked e = flows-answer file n c.flows false c.end e ∙ sym (called-plain false n (story_in c file).flows)
 
-  pub global-asked : r ≡ one_of n (words (names_in 0 (take (c.externals - 0) (drop 0 file)))) → r ≡ (known_in c file).global n
+  pub global_asked : r ≡ one_of n (words (names_in 0 (take (c.externals - 0) (drop 0 file)))) → r ≡ (known_in c file).global n
   unfolding known story_in without_plain
-  global-asked e = section-answer file n 0 c.externals e
+  global_asked e = section-answer file n 0 c.externals e
 
-  pub external-asked : r ≡ one_of n (words (names_in 0 (take (c.root - c.externals) (drop c.externals file)))) → r ≡ (known_in c file).external n
+  pub external_asked : r ≡ one_of n (words (names_in 0 (take (c.root - c.externals) (drop c.externals file)))) → r ≡ (known_in c file).external n
   unfolding known story_in without_plain
-  external-asked e = section-answer file n c.externals c.root e
+  external_asked e = section-answer file n c.externals c.root e
 
 -- some word answers: it is the target, or it ends in "." and the target
 any-answers : (n : Bytes) (l : List Bytes) → any (answers n) l ≡ one_of n l || any (ends (46 ∷ n)) l
@@ -58,10 +58,10 @@ any-answers n (x ∷ xs) = rw (any-answers n xs) (between (same n x) (ends (46 �
     between false false p q = refl
 
 module _ (file : List ℕ) (c : Sections) (n : Bytes) {b : Bool} (e : b ≡ one_of n (END ∷ DONE ∷ back ∷ [])) where
-  pub target-reserved : b ≡ true → true ≡ (known_in c file).target n
+  pub target_reserved : b ≡ true → true ≡ (known_in c file).target n
   unfolding known
-  target-reserved t = or-found (any (ends (46 ∷ n)) (spellings (kept_story c file))) (or-found (one_of n (spellings (kept_story c file))) e t) refl
+  target_reserved t = or-found (any (ends (46 ∷ n)) (spellings (kept_story c file))) (or-found (one_of n (spellings (kept_story c file))) e t) refl
 
-  pub target-asked : b ≡ false → {index : List ℕ} {count : ℕ} {functions : List ℕ} → Ready file c index count functions → {r : Bool} → r ≡ any (answers n) (rows.spellings_in file count index) → r ≡ (known_in c file).target n
+  pub target_asked : b ≡ false → (index : List ℕ) (count : ℕ) → rows.spellings_in file count index ≡ spellings (kept_story c file) → {r : Bool} → r ≡ any (answers n) (rows.spellings_in file count index) → r ≡ (known_in c file).target n
   unfolding known
-  target-asked f ready g = rw (← e, f) (g ∙ rw ready.spelled (any-answers n (spellings (kept_story c file))))
+  target_asked f index count spelled g = rw (← e, f) (g ∙ rw spelled (any-answers n (spellings (kept_story c file))))

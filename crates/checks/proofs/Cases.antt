@@ -15,7 +15,7 @@ use Rattle.story.specs.Story.{Name, Story}
 use Rattle.rules.specs.declared.Rule.TheVariants.{FunctionDivertedTo, TargetNotFound, FlowCalled, NameIsFunction, TempIsParameter, TempIsLabel, ParameterUnmarked, ParameterAlreadyMarked, GatherRepeated, ChoiceUndiverted, FunctionWithStitches, FunctionWithChoice, FunctionWithDivert, VariableForbidden}
 use Rattle.rules.specs.Rules.{Known, Here, target, call_passes, broken, here, root}
 use Rattle.rules.specs.Steps.{name_item, bracket, s1, s5, s6, s12, targets, calls, choices, temps, variable_diverts, gathers}
-use Rattle.checks.specs.declared.Judged.TheVariants.{Fine, Broken}
+use Rattle.std.proofs.Common.{Some, None}
 use Rattle.checks.specs.Judged.{first_broken, judged_by, target_judged, call_judged, temp_judged, param_judged, stitch_judged, variable_divert_judged, argument_judged}
 
 -- 1. A test's answer picks
@@ -29,28 +29,28 @@ passed x e h g = rw (← e, h) g
 -- 2. By tests alone
 
 targets-tests : (t p f g : Bool)
-    → pick (t && not p && f) (Broken FunctionDivertedTo) (pick (t && not p && not f && not g) (Broken TargetNotFound) Fine)
-    ≡ pick t (pick p Fine (pick f (Broken FunctionDivertedTo) (pick g Fine (Broken TargetNotFound)))) Fine
+    → pick (t && not p && f) (Some FunctionDivertedTo) (pick (t && not p && not f && not g) (Some TargetNotFound) None)
+    ≡ pick t (pick p None (pick f (Some FunctionDivertedTo) (pick g None (Some TargetNotFound)))) None
 targets-tests true true f g = refl
 targets-tests true false true g = refl
 targets-tests true false false true = refl
 targets-tests true false false false = refl
 targets-tests false p f g = refl
 
-calls-tests : (t p f : Bool) → pick (t && not p && f) (Broken FlowCalled) Fine ≡ pick t (pick p Fine (pick f (Broken FlowCalled) Fine)) Fine
+calls-tests : (t p f : Bool) → pick (t && not p && f) (Some FlowCalled) None ≡ pick t (pick p None (pick f (Some FlowCalled) None)) None
 calls-tests true true f = refl
 calls-tests true false f = refl
 calls-tests false p f = refl
 
 temps-tests : (t f g h : Bool)
-    → pick (t && f) (Broken NameIsFunction) (pick (t && g) (Broken TempIsParameter) (pick (t && h) (Broken TempIsLabel) Fine))
-    ≡ pick t (pick f (Broken NameIsFunction) (pick g (Broken TempIsParameter) (pick h (Broken TempIsLabel) Fine))) Fine
+    → pick (t && f) (Some NameIsFunction) (pick (t && g) (Some TempIsParameter) (pick (t && h) (Some TempIsLabel) None))
+    ≡ pick t (pick f (Some NameIsFunction) (pick g (Some TempIsParameter) (pick h (Some TempIsLabel) None))) None
 temps-tests true f g h = refl
 temps-tests false f g h = refl
 
 diverts-tests : (t a p m : Bool) → (t && a) ≡ false
-    → pick (t && p && not m) (Broken ParameterUnmarked) (pick (a && m) (Broken ParameterAlreadyMarked) Fine)
-    ≡ pick t (pick p (pick m Fine (Broken ParameterUnmarked)) Fine) (pick a (pick m (Broken ParameterAlreadyMarked) Fine) Fine)
+    → pick (t && p && not m) (Some ParameterUnmarked) (pick (a && m) (Some ParameterAlreadyMarked) None)
+    ≡ pick t (pick p (pick m None (Some ParameterUnmarked)) None) (pick a (pick m (Some ParameterAlreadyMarked) None) None)
 diverts-tests true true p m h = let z : ◌≡◌ {A = Bool} true false = h in cc
 diverts-tests true false true true h = refl
 diverts-tests true false true false h = refl
@@ -59,24 +59,24 @@ diverts-tests false true p m h = refl
 diverts-tests false false p m h = refl
 
 purity-tests : (c t e : Bool)
-    → pick c (Broken FunctionWithChoice) (pick (t && not e) (Broken FunctionWithDivert) Fine)
-    ≡ pick c (Broken FunctionWithChoice) (pick t (pick e Fine (Broken FunctionWithDivert)) Fine)
+    → pick c (Some FunctionWithChoice) (pick (t && not e) (Some FunctionWithDivert) None)
+    ≡ pick c (Some FunctionWithChoice) (pick t (pick e None (Some FunctionWithDivert)) None)
 purity-tests true t e = refl
 purity-tests false true true = refl
 purity-tests false true false = refl
 purity-tests false false e = refl
 
-choices-tests : (c b l : Bool) → pick (c && b && not l) (Broken ChoiceUndiverted) Fine ≡ pick c (pick b (pick l Fine (Broken ChoiceUndiverted)) Fine) Fine
+choices-tests : (c b l : Bool) → pick (c && b && not l) (Some ChoiceUndiverted) None ≡ pick c (pick b (pick l None (Some ChoiceUndiverted)) None) None
 choices-tests true true true = refl
 choices-tests true true false = refl
 choices-tests true false l = refl
 choices-tests false b l = refl
 
-variables-tests : (v f : Bool) → pick (v && f) (Broken VariableForbidden) Fine ≡ pick v (pick f (Broken VariableForbidden) Fine) Fine
+variables-tests : (v f : Bool) → pick (v && f) (Some VariableForbidden) None ≡ pick v (pick f (Some VariableForbidden) None) None
 variables-tests true f = refl
 variables-tests false f = refl
 
-gathers-tests : (g a : Bool) → pick (g && a) (Broken GatherRepeated) Fine ≡ pick g (pick a (Broken GatherRepeated) Fine) Fine
+gathers-tests : (g a : Bool) → pick (g && a) (Some GatherRepeated) None ≡ pick g (pick a (Some GatherRepeated) None) None
 gathers-tests true a = refl
 gathers-tests false a = refl
 
@@ -91,60 +91,60 @@ apart n = by-test (eqb 7 n) refl
 -- 3. At a record of a body: its kind is none of parameter, stitch_name and flow_start
 
 module _ (k : Known) (h : Here) (before : List What) (w : What) where
-  pub targets-judged : judged_by k h targets before w ≡ pick (target w) (target_judged k w.name) Fine
+  pub targets_judged : judged_by k h targets before w ≡ pick (target w) (target_judged k w.name) None
   unfolding judged_by first_broken broken
-  targets-judged = targets-tests (target w) (passes w.name) (k.function w.name) (k.target w.name)
+  targets_judged = targets-tests (target w) (passes w.name) (k.function w.name) (k.target w.name)
 
-  pub calls-judged : judged_by k h calls before w ≡ pick (is call w) (call_judged k w.name) Fine
+  pub calls_judged : judged_by k h calls before w ≡ pick (is call w) (call_judged k w.name) None
   unfolding judged_by first_broken broken
-  calls-judged = calls-tests (is call w) (call_passes k w.name) (k.flow w.name)
+  calls_judged = calls-tests (is call w) (call_passes k w.name) (k.flow w.name)
 
-  pub temps-judged : code w.kind ≤ 9 → judged_by k h temps before w ≡ pick (is temp w) (temp_judged k h w.name) Fine
+  pub temps_judged : code w.kind ≤ 9 → judged_by k h temps before w ≡ pick (is temp w) (temp_judged k h w.name) None
   unfolding judged_by first_broken broken
-  temps-judged r =
+  temps_judged r =
       let other : is parameter w ≡ false = ne_eqb 10 (code w.kind) (λ e. omega arith) in
       rw (other, or-false (is temp w)) (temps-tests (is temp w) (k.function w.name) (h.param w.name) (h.label w.name))
 
-  pub variable-diverts-judged : judged_by k h variable_diverts before w
-      ≡ pick (target w) (variable_divert_judged h w.name) (pick (is argument w) (argument_judged h w.name) Fine)
+  pub variable_diverts_judged : judged_by k h variable_diverts before w
+      ≡ pick (target w) (variable_divert_judged h w.name) (pick (is argument w) (argument_judged h w.name) None)
   unfolding judged_by first_broken broken
-  variable-diverts-judged = diverts-tests (target w) (is argument w) (h.param w.name) (h.mark w.name) (apart (code w.kind))
+  variable_diverts_judged = diverts-tests (target w) (is argument w) (h.param w.name) (h.mark w.name) (apart (code w.kind))
 
-  pub purity-judged : code w.kind ≤ 9 → judged_by k h (bracket s5) before w
-      ≡ pick (is choice w) (Broken FunctionWithChoice)
-      (pick (is divert w) (pick (same END w.name || same DONE w.name) Fine (Broken FunctionWithDivert)) Fine)
+  pub purity_judged : code w.kind ≤ 9 → judged_by k h (bracket s5) before w
+      ≡ pick (is choice w) (Some FunctionWithChoice)
+      (pick (is divert w) (pick (same END w.name || same DONE w.name) None (Some FunctionWithDivert)) None)
   unfolding judged_by first_broken broken
-  purity-judged r =
+  purity_judged r =
       let other : is flow_start w ≡ false = ne_eqb 12 (code w.kind) (λ e. omega arith) in
       rw other (purity-tests (is choice w) (is divert w) (same END w.name || same DONE w.name))
 
-  pub choices-judged : judged_by k h choices before w ≡ pick (is choice w) (pick w.branch (pick w.leaves Fine (Broken ChoiceUndiverted)) Fine) Fine
+  pub choices_judged : judged_by k h choices before w ≡ pick (is choice w) (pick w.branch (pick w.leaves None (Some ChoiceUndiverted)) None) None
   unfolding judged_by first_broken broken
-  choices-judged = choices-tests (is choice w) w.branch w.leaves
+  choices_judged = choices-tests (is choice w) w.branch w.leaves
 
-  pub variables-judged : judged_by k h (VariableForbidden ∷ []) before w ≡ pick (is variable w) (pick (h.forbidden w.name) (Broken VariableForbidden) Fine) Fine
+  pub variables_judged : judged_by k h (VariableForbidden ∷ []) before w ≡ pick (is variable w) (pick (h.forbidden w.name) (Some VariableForbidden) None) None
   unfolding judged_by first_broken broken
-  variables-judged = variables-tests (is variable w) (h.forbidden w.name)
+  variables_judged = variables-tests (is variable w) (h.forbidden w.name)
 
-  pub gathers-judged : judged_by k h gathers before w
-      ≡ pick (is gather w) (pick (any (λ (v : What). is gather v && same w.name v.name) before) (Broken GatherRepeated) Fine) Fine
+  pub gathers_judged : judged_by k h gathers before w
+      ≡ pick (is gather w) (pick (any (λ (v : What). is gather v && same w.name v.name) before) (Some GatherRepeated) None) None
   unfolding judged_by first_broken broken
-  gathers-judged = gathers-tests (is gather w) (any (λ (v : What). is gather v && same w.name v.name) before)
+  gathers_judged = gathers-tests (is gather w) (any (λ (v : What). is gather v && same w.name v.name) before)
 
 -- 4. At a name: a parameter's, a stitch's, or the flow itself
 
 module _ (k : Known) (h : Here) (before : List What) (place : ℕ) (n : Name) where
-  pub params-judged : judged_by k h (bracket s6) before (name_item parameter place n).what ≡ param_judged k n.bytes
+  pub params_judged : judged_by k h (bracket s6) before (name_item parameter place n).what ≡ param_judged k n.bytes
   unfolding judged_by first_broken broken
-  params-judged = refl
+  params_judged = refl
 
-  pub stitch-judged : judged_by k h (bracket s12) before (name_item stitch_name place n).what ≡ stitch_judged k n.bytes
+  pub stitch_name_judged : judged_by k h (bracket s12) before (name_item stitch_name place n).what ≡ stitch_judged k n.bytes
   unfolding judged_by first_broken broken
-  stitch-judged = refl
+  stitch_name_judged = refl
 
-  pub start-judged : judged_by k h (bracket s5) before (name_item flow_start place n).what ≡ pick h.stitched (Broken FunctionWithStitches) Fine
+  pub start_judged : judged_by k h (bracket s5) before (name_item flow_start place n).what ≡ pick h.stitched (Some FunctionWithStitches) None
   unfolding judged_by first_broken broken
-  start-judged = refl
+  start_judged = refl
 
 -- 5. At the root no name is a parameter
 

@@ -13,21 +13,24 @@ use Rattle.items.proofs.Sorts.{item-sort}
 use Rattle.rules.specs.declared.Rule.TheVariants.{FunctionWithChoice, FunctionWithDivert}
 use Rattle.rules.specs.Rules.{Known, Here}
 use Rattle.rules.specs.Steps.{bracket, s5, temps}
-use Rattle.checks.specs.declared.Judged.TheVariants.{Fine, Broken}
+use Rattle.std.proofs.Common.{Some, None}
 use Rattle.checks.specs.Judged.{judged_by, temp_judged}
-use Rattle.checks.proofs.Cases.{temps-judged, purity-judged}
+use Rattle.checks.proofs.Cases.{targets_judged, calls_judged, temps_judged, choices_judged, variable_diverts_judged, variables_judged, gathers_judged, purity_judged}
 
 -- so the rules on temps and on functions need no test for those
 module _ (k : Known) (h : Here) (before : List What) (file : List ℕ) (item : ℕ) where
   recorded : code (item_in file item).what.kind ≤ 9
   recorded = rw (item-sort file item) (number-record item)
 
-  pub temps-at : judged_by k h temps before (item_in file item).what
-      ≡ pick (is temp (item_in file item).what) (temp_judged k h (item_in file item).what.name) Fine
-  temps-at = temps-judged k h before (item_in file item).what recorded
+  pub temps_at : judged_by k h temps before (item_in file item).what
+      ≡ pick (is temp (item_in file item).what) (temp_judged k h (item_in file item).what.name) None
+  temps_at = temps_judged k h before (item_in file item).what recorded
 
-  pub purity-at : judged_by k h (bracket s5) before (item_in file item).what
-      ≡ pick (is choice (item_in file item).what) (Broken FunctionWithChoice)
+  pub purity_at : judged_by k h (bracket s5) before (item_in file item).what
+      ≡ pick (is choice (item_in file item).what) (Some FunctionWithChoice)
       (pick (is divert (item_in file item).what)
-      (pick (same END (item_in file item).what.name || same DONE (item_in file item).what.name) Fine (Broken FunctionWithDivert)) Fine)
-  purity-at = purity-judged k h before (item_in file item).what recorded
+      (pick (same END (item_in file item).what.name || same DONE (item_in file item).what.name) None (Some FunctionWithDivert)) None)
+  purity_at = purity_judged k h before (item_in file item).what recorded
+
+-- what each pass judges of a record, by the tests of its sort
+pub ruleset recorded_judged = (temps_at, targets_judged, calls_judged, choices_judged, variable_diverts_judged, variables_judged, gathers_judged, purity_at)

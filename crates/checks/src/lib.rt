@@ -6,15 +6,7 @@ pub mod known;
 pub mod labels;
 pub mod parameters;
 pub mod structure;
-
-use rules::Rule;
-
-// A rule that is broken, or none.
-#[derive(Clone, Copy)]
-pub enum Judged {
-    Fine,
-    Broken(Rule),
-}
+pub mod view;
 
 // Where a step runs, by places in the file. Of the flow or the stitch at hand: whether it is a stitch, the flow's name, its own
 // parameters, divert parameters and body. Of its knot: the parameters, the body, which ends where the stitches begin, and their end.

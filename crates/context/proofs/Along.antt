@@ -1,4 +1,5 @@
 -- Along the items of a step: one after the other, and where what stands before an item does not matter. Assumes nothing.
+use Rattle.std.specs.Prelude.{Option, Some, None}
 use mathlib.Core.Path.{◌≡◌, refl, ap}
 use mathlib.Core.List.{List, [], ◌∷◌, ◌++◌}
 use Prim.Native.Nat.{ℕ}
@@ -9,25 +10,22 @@ use Rattle.rules.specs.declared.Rule.{Rule}
 use Rattle.rules.specs.declared.Rule.TheVariants.{FunctionWithStitches}
 use Rattle.rules.specs.Rules.{Known, Here, known, here, Scope, root, stitched}
 use Rattle.rules.specs.Steps.{bracket, s1, s5, s6, temps, name_item, names_of, flow_named}
-use Rattle.checks.specs.declared.Judged.{Judged}
-use Rattle.checks.specs.declared.Judged.TheVariants as judged
 use Rattle.checks.specs.Judged.{judged_by}
-use Rattle.checks.proofs.Cases.{root-temps, purity-free, params-free, start-judged}
-use Rattle.context.specs.declared.Found.TheVariants as found
+use Rattle.checks.proofs.Cases.{root-temps, purity-free, params-free, start_judged}
 use Rattle.context.specs.Found.{breach_at, or_else, found_at, found_along, found_in}
 
 -- 1. The item at the front: nothing is broken there, or a rule is
 
-module _ (k : Known) (h : Here) (flow : ℕ) (rules : List Rule) (before : List What) (i : Item) (is : List Item) {j : Judged} (e : j ≡ judged_by k h rules before i.what) where
-  pub along-passed : j ≡ judged.Fine → found_along k h flow rules before (i ∷ is) ≡ found_along k h flow rules (before ++ (i.what ∷ [])) is
+module _ (k : Known) (h : Here) (flow : ℕ) (rules : List Rule) (before : List What) (i : Item) (is : List Item) {j : Option Rule} (e : j ≡ judged_by k h rules before i.what) where
+  pub along-passed : j ≡ None → found_along k h flow rules before (i ∷ is) ≡ found_along k h flow rules (before ++ (i.what ∷ [])) is
   unfolding found_along found_at or_else
   along-passed f = rw (← e, f)
 
-  pub along-found : {r : Rule} → j ≡ judged.Broken r → found.Breach (breach_at r i.place (names_of r flow i.named)) ≡ found_along k h flow rules before (i ∷ is)
+  pub along-found : {r : Rule} → j ≡ Some r → Some (breach_at r i.place (names_of r flow i.named)) ≡ found_along k h flow rules before (i ∷ is)
   unfolding found_along found_at or_else
   along-found f = rw (← e, f)
 
-pub along-none : (k : Known) (h : Here) (flow : ℕ) (rules : List Rule) (before : List What) → found.Clear ≡ found_along k h flow rules before []
+pub along-none : (k : Known) (h : Here) (flow : ℕ) (rules : List Rule) (before : List What) → None ≡ found_along k h flow rules before []
 unfolding found_along
 along-none k h flow rules before = refl
 
@@ -50,7 +48,7 @@ params-along k h flow b c is = along-alike k h flow (bracket s6) (bracket s6) (p
 
 pub purity-along : (s : Story) (scope : Scope) (place : ℕ) (n : Name) (is : List Item)
     → found_in s scope (bracket s5) (name_item flow_start place n ∷ is)
-    ≡ or_else (found_at (pick (stitched scope) (judged.Broken FunctionWithStitches) judged.Fine) (flow_named scope) (name_item flow_start place n)) (found_in s scope (bracket s5) is)
+    ≡ or_else (found_at (pick (stitched scope) (Some FunctionWithStitches) None) (flow_named scope) (name_item flow_start place n)) (found_in s scope (bracket s5) is)
 unfolding found_in found_along here
 purity-along s scope place n is =
-    rw (start-judged (known s) (here s scope) [] place n) (ap (or_else _) (along-alike (known s) (here s scope) (flow_named scope) (bracket s5) (bracket s5) (purity-free (known s) (here s scope)) ((name_item flow_start place n).what ∷ []) [] is))
+    rw (start_judged (known s) (here s scope) [] place n) (ap (or_else _) (along-alike (known s) (here s scope) (flow_named scope) (bracket s5) (bracket s5) (purity-free (known s) (here s scope)) ((name_item flow_start place n).what ∷ []) [] is))

@@ -3,7 +3,6 @@ pub mod Verdict
 pub mod Along
 pub mod Walks
 pub mod Clear
-pub mod Numbers
 pub mod Places
 pub mod Runs
 pub mod Params

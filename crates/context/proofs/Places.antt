@@ -1,4 +1,5 @@
 -- The names of the root, a flow and a stitch are those at their places, and their parts lie within the file. Assumes nothing.
+use Rattle.std.specs.Prelude.{Option, Some, None}
 use mathlib.Core.Path.{◌≡◌, refl, sym, ap}
 use mathlib.Core.Bool.{Bool, true, false, not, ◌&&◌}
 use mathlib.Core.List.{List, [], ◌∷◌, map}
@@ -17,10 +18,6 @@ use Rattle.story.proofs.Unfolding.{pieces-in-none}
 use Rattle.story.proofs.Readable.{readable}
 use Rattle.searches.specs.declared.views.FlowView.{FlowView}
 use Rattle.searches.specs.declared.views.StitchView.{StitchView}
-use Rattle.searches.specs.declared.views.FlowViewRead.{FlowViewRead}
-use Rattle.searches.specs.declared.views.FlowViewRead.TheVariants as flow-read
-use Rattle.searches.specs.declared.views.StitchViewRead.{StitchViewRead}
-use Rattle.searches.specs.declared.views.StitchViewRead.TheVariants as stitch-read
 use Rattle.searches.specs.Views.{flow_view_of, stitch_view_of}
 use Rattle.searches.proofs.Parts.{part_none}
 use Rattle.searches.proofs.Viewed.{FlowLaid, flow-laid, stitch-laid}
@@ -105,11 +102,11 @@ module _ (file kept : List ℕ) (v : FlowView) (ready : FlowReady file kept v) w
 
 -- 3. A flow or a stitch that is seen
 
-module _ (file kept : List ℕ) (at end : ℕ) (ready : FlowsReady file kept at end) {r : FlowViewRead} (told : r ≡ flow_view_of file at end) where
-  pub flows-none : r ≡ flow-read.None → kept_flows file at end ≡ []
+module _ (file kept : List ℕ) (at end : ℕ) (ready : FlowsReady file kept at end) {r : Option FlowView} (told : r ≡ flow_view_of file at end) where
+  pub flows-none : r ≡ None → kept_flows file at end ≡ []
   flows-none q = ap (map flow_without_plain) (no_flow file at end ready.good told q)
 
-  module _ (v : FlowView) (q : r ≡ flow-read.View v) where
+  module _ (v : FlowView) (q : r ≡ Some v) where
     flow-order : FlowLaid at end v
     flow-order = flow-laid file at end v told q
 
@@ -156,11 +153,11 @@ flows-ready-from q ready = record {
   own = flows-from q ready.own;
 }
 
-module _ (file : List ℕ) (at end : ℕ) (ready : StitchesReady file at end) {r : StitchViewRead} (told : r ≡ stitch_view_of file at end) where
-  pub no-stitches : r ≡ stitch-read.None → kept_stitches file at end ≡ []
+module _ (file : List ℕ) (at end : ℕ) (ready : StitchesReady file at end) {r : Option StitchView} (told : r ≡ stitch_view_of file at end) where
+  pub no-stitches : r ≡ None → kept_stitches file at end ≡ []
   no-stitches q = ap (map stitch_without_plain) (stitches-none file at end ready told q)
 
-  module _ (w : StitchView) (q : r ≡ stitch-read.View w) where
+  module _ (w : StitchView) (q : r ≡ Some w) where
     pub stitch-seen-ready : StitchReady file w
     stitch-seen-ready =
         let o = stitch-laid file at end w told q in

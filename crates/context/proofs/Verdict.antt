@@ -1,4 +1,5 @@
 -- What the check finds is the verdict: step after step, item after item, rule after rule. Assumes nothing.
+use Rattle.std.specs.Prelude.{Option, Some, None}
 use mathlib.Core.Path.{◌≡◌, refl, sym, ◌∙◌}
 use mathlib.Core.Bool.{Bool, true, false}
 use mathlib.Core.List.{List, [], ◌∷◌, ◌++◌}
@@ -11,33 +12,29 @@ use Rattle.story.specs.Story.{Story}
 use Rattle.rules.specs.declared.Rule.{Rule}
 use Rattle.rules.specs.Rules.{known, here, Scope}
 use Rattle.rules.specs.Steps.{Step, bracket, Run, over, runs, Numbered, numbered, Breach, breach, Visit, visits, breaks, in_visit, in_run, breaches, verdict, first, flow_named}
-use Rattle.checks.specs.declared.Judged.{Judged}
-use Rattle.checks.specs.declared.Judged.TheVariants as judged
 use Rattle.checks.specs.Judged.{first_broken, judged_by}
 use Rattle.context.specs.declared.BreachAt.{BreachAt}
-use Rattle.context.specs.declared.Found.{Found}
-use Rattle.context.specs.declared.Found.TheVariants as found
 use Rattle.context.specs.Found.{found_of, or_else, found_at, found_along, found_in, found_runs}
 
 -- 1. The one or else the other
 
-pub or-clear : (f : Found) → or_else f found.Clear ≡ f
+pub or-clear : (f : Option BreachAt) → or_else f None ≡ f
 unfolding or_else
-or-clear found.Clear = refl
-or-clear (found.Breach b) = refl
+or-clear None = refl
+or-clear (Some b) = refl
 
-pub or_assoc : (f g h : Found) → or_else (or_else f g) h ≡ or_else f (or_else g h)
+pub or_assoc : (f g h : Option BreachAt) → or_else (or_else f g) h ≡ or_else f (or_else g h)
 unfolding or_else
-or_assoc found.Clear g h = refl
-or_assoc (found.Breach b) g h = refl
+or_assoc None g h = refl
+or_assoc (Some b) g h = refl
 
-pub never-clear : {b : BreachAt} → found.Breach b ≡ found.Clear → ⊥
+pub never-clear : {b : BreachAt} → Some b ≡ None → ⊥
 never-clear e = let z : ◌≡◌ {A = ℕ} 0 1 = cc in omega arith
 
-pub both-clear : (f g : Found) → found.Clear ≡ or_else f g → (f ≡ found.Clear) × (g ≡ found.Clear)
+pub both-clear : (f g : Option BreachAt) → None ≡ or_else f g → (f ≡ None) × (g ≡ None)
 unfolding or_else
-both-clear found.Clear g e = (refl, sym e)
-both-clear (found.Breach b) g e = absurd (never-clear (sym e))
+both-clear None g e = (refl, sym e)
+both-clear (Some b) g e = absurd (never-clear (sym e))
 
 -- 2. The first of joined lists
 
@@ -57,9 +54,9 @@ at_item s u v (r ∷ rs) =
     by-test (each (λ (q : Rule). only (breaks s u.it v q) (breach u v q)) rs) (first_broken (breaks s u.it v) rs) (breaks s u.it v r)
     (at_item s u v rs)
   where
-    by-test : (xs : List Breach) (j : Judged) (b : Bool)
+    by-test : (xs : List Breach) (j : Option Rule) (b : Bool)
         → found_of (first xs) ≡ found_at j (flow_named u.it.scope) v.item
-        → found_of (first (only b (breach u v r) ++ xs)) ≡ found_at (pick b (judged.Broken r) j) (flow_named u.it.scope) v.item
+        → found_of (first (only b (breach u v r) ++ xs)) ≡ found_at (pick b (Some r) j) (flow_named u.it.scope) v.item
     by-test xs j true e = refl
     by-test xs j false e = e
 

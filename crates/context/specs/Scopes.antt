@@ -1,5 +1,5 @@
 -- The root, a flow and a stitch by their places, what holds while their steps run, and what the steps find. Assumes nothing.
-use Rattle.std.specs.Prelude.{ℕ, ◌≤◌, ◌<◌, ◌≡◌, Bool, true, false, ◌||◌, List, [], ◌∷◌, ◌++◌, map, length}
+use Rattle.std.specs.Prelude.{ℕ, ◌≤◌, ◌<◌, ◌≡◌, Bool, true, false, ◌||◌, List, [], ◌∷◌, ◌++◌, map, length, Option}
 use Rattle.names.specs.Words.{Bytes, any, each}
 use Rattle.names.specs.Counted.{name_at}
 use Rattle.records.specs.Trace.{well, ends}
@@ -17,7 +17,7 @@ use Rattle.rules.specs.Rules.{Here, knot}
 use Rattle.rules.specs.Steps.{s5, s6, s12, s19, bracket, flow_steps, Run, over, name_item, param_items, purity_items, stitch_runs}
 use Rattle.checks.specs.declared.ScopeView.{ScopeView}
 use Rattle.checks.specs.Context.{known_in, here_at, StitchesReady}
-use Rattle.context.specs.declared.Found.{Found}
+use Rattle.context.specs.declared.BreachAt.{BreachAt}
 use Rattle.context.specs.declared.Pass.{Pass}
 use Rattle.context.specs.Found.{found_along, found_passes, clear_along}
 
@@ -103,7 +103,7 @@ pub record FlowsReady (file kept : List ℕ) (at end : ℕ) : Type 0 where
 -- 3. What the steps find
 
 -- passes along the body
-abbrev pub passes_found : List ℕ → List ℕ → Sections → ScopeView → List Pass → Found
+abbrev pub passes_found : List ℕ → List ℕ → Sections → ScopeView → List Pass → Option BreachAt
 passes_found file kept c v ps = found_passes (known_in c file) (here_at file kept v) v.flow ps (kept_in file kept v.from v.to)
 
 -- no rule of the passes is broken along the body
@@ -111,11 +111,11 @@ abbrev pub passes_clear : List ℕ → List ℕ → Sections → ScopeView → L
 passes_clear file kept c v ps = clear_along (known_in c file) (here_at file kept v) ps [] (kept_in file kept v.from v.to)
 
 -- step 6, at these parameters
-abbrev pub params_found : List ℕ → Sections → Here → ℕ → List Name → Found
+abbrev pub params_found : List ℕ → Sections → Here → ℕ → List Name → Option BreachAt
 params_found file c h flow names = found_along (known_in c file) h flow (bracket s6) [] (param_items names)
 
 -- step 12, at the stitch's name
-abbrev pub stitch_name_found : List ℕ → Sections → Here → ℕ → ℕ → Found
+abbrev pub stitch_name_found : List ℕ → Sections → Here → ℕ → ℕ → Option BreachAt
 stitch_name_found file c h flow at =
     found_along (known_in c file) h flow (bracket s12) [] (name_item stitch_name at (record { at = at; bytes = name_at file at }) ∷ [])
 

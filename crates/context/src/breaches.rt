@@ -4,7 +4,7 @@ ghost use Rattle.rules.specs.Steps.{names_of};
 ghost use Rattle.context.specs.Found.{breach_at};
 
 use crate::BreachAt;
-use rules::{Rule, rule_number};
+use rules::Rule;
 
 // The number where there is no name.
 pub const ABSENT: usize = 4294967295;
@@ -13,43 +13,16 @@ pub const ABSENT: usize = 4294967295;
 pub fn breach_at(rule: Rule, place: usize, flow: usize, own: usize) -> BreachAt
     ensures { result ≡ breach_at rule place (names_of rule flow own) }
 {
-    let number = rule_number(rule);
-    if number == 11 {
-        return BreachAt {
-            rule,
-            place,
-            first: ABSENT,
-            second: ABSENT,
-        };
-    }
-    if number == 12 {
-        return BreachAt {
-            rule,
-            place,
-            first: flow,
-            second: ABSENT,
-        };
-    }
-    if number == 13 {
-        return BreachAt {
-            rule,
-            place,
-            first: flow,
-            second: ABSENT,
-        };
-    }
-    if number == 14 {
-        return BreachAt {
-            rule,
-            place,
-            first: flow,
-            second: own,
-        };
-    }
+    let (first, second) = match rule {
+        Rule::ChoiceUndiverted => (ABSENT, ABSENT),
+        Rule::FunctionWithStitches | Rule::FunctionWithChoice => (flow, ABSENT),
+        Rule::FunctionWithDivert => (flow, own),
+        _ => (own, ABSENT),
+    };
     BreachAt {
         rule,
         place,
-        first: own,
-        second: ABSENT,
+        first,
+        second,
     }
 }

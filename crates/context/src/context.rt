@@ -5,228 +5,138 @@ ghost use Rattle.story.specs.File.{story_in};
 ghost use Rattle.items.specs.Bodies.{Kept, kept_story, kept_stitch, kept_flow};
 ghost use Rattle.rules.specs.Steps.{stitch_runs, flow_runs, verdict};
 ghost use Rattle.checks.specs.Context.{Ready};
-ghost use Rattle.filters.specs.Names.{Declared};
-ghost use Rattle.context.specs.Found.{found_of, found_runs, passes_from};
+ghost use Rattle.context.specs.Found.{found_of, found_runs};
 ghost use Rattle.context.specs.Scopes.{root_view, FlowReady, StitchReady, FlowsReady, passes_found, first_runs, later_runs};
 
-use crate::Found;
-use crate::passes::{
-    GATHERS, INNER, OUTER, filter_room, find_in_passes, is_clear, validate_passes,
-};
+use crate::BreachAt;
+use crate::passes::{FLOW, GATHERS, ROOT, STITCH, WHOLE_FLOW, filter_room};
 use crate::scopes::{knot_scope, root_scope, stitch_scope};
-use crate::structure::{
-    validate_flow_parameter_names, validate_function_purity, validate_stitch_name,
-};
+use crate::structure::{validate_flow_parameter_names, validate_stitch_name};
+use crate::view::{KnotView, StepView};
+use checks::view::{BodyView, FileView, IndexView, StoryView};
 use filters::declared::put_declared;
+use filters::view::DeclaredView;
 use items::runs::items_from;
-use searches::views::{FlowView, FlowViewRead, StitchView, StitchViewRead, flow_view, stitch_view};
+use searches::views::{FlowView, StitchView, flow_view, stitch_view};
 use story::Sections;
 
-// Steps 5 and 6, of a flow.
-fn validate_first_steps(
-    file: &[u8],
-    c: Sections,
-    kept: &[u32],
-    index: &[u32],
-    count: usize,
-    functions: &[u32],
-    hints: &[u32],
-    v: FlowView,
-    declared: &[u8],
-    gathers: &mut [u8],
-) -> Found
-    requires ready { Ready file.now c index.now count functions.now }
-    requires flow_ready { FlowReady file.now kept.now v }
-    requires declared { Declared file.now kept.now v.params v.from v.stitches v.end declared.now }
-    ensures { result ≡ found_runs (kept_story c file.now) (first_runs (kept_flow file.now kept.now v)) }
-{
-    let purity = validate_function_purity(
-        file, c, kept, index, count, functions, hints, v, declared, gathers,
-    );
-    if let Found::Breach(_) = purity {
-        return purity;
-    }
-    validate_flow_parameter_names(file, c, functions, v.name, v.params)
-}
-
-// Steps 12 to 18, of a stitch.
-fn validate_stitch(
-    file: &[u8],
-    c: Sections,
-    kept: &[u32],
-    index: &[u32],
-    count: usize,
-    functions: &[u32],
-    hints: &[u32],
-    v: FlowView,
-    w: StitchView,
-    declared: &[u8],
-    gathers: &mut [u8],
-) -> Found
-    requires ready { Ready file.now c index.now count functions.now }
-    requires flow_ready { FlowReady file.now kept.now v }
-    requires stitch_ready { StitchReady file.now w }
-    requires declared { Declared file.now kept.now v.params v.from v.stitches v.end declared.now }
-    ensures { result ≡ found_runs (kept_story c file.now) (stitch_runs (kept_flow file.now kept.now v) (kept_stitch file.now kept.now w)) }
-{
-    let name = validate_stitch_name(file, c, v.name, w.name);
-    if let Found::Breach(_) = name {
-        return name;
-    }
-    validate_passes(
-        INNER,
-        6,
-        file,
-        c,
-        kept,
-        index,
-        count,
-        functions,
-        hints,
-        stitch_scope(v, w),
-        declared,
-        gathers,
-    )
-}
-
-// Steps 12 to 18, of the stitches of a flow one after the other.
-fn validate_stitches(
-    file: &[u8],
-    c: Sections,
-    kept: &[u32],
-    index: &[u32],
-    count: usize,
-    functions: &[u32],
-    hints: &[u32],
-    v: FlowView,
-    declared: &[u8],
-    gathers: &mut [u8],
-) -> Found
-    requires ready { Ready file.now c index.now count functions.now }
-    requires flow_ready { FlowReady file.now kept.now v }
-    requires declared { Declared file.now kept.now v.params v.from v.stitches v.end declared.now }
-    ensures { result ≡ found_runs (kept_story c file.now) (each (stitch_runs (kept_flow file.now kept.now v)) (kept_flow file.now kept.now v).stitches) }
-{
-    let end = v.end;
-    let mut at = v.stitches;
-    loop {
-        let StitchViewRead::View(w) = stitch_view(file, at, end) else {
-            return Found::Clear;
-        };
-        let found = validate_stitch(
-            file, c, kept, index, count, functions, hints, v, w, declared, gathers,
-        );
-        if let Found::Breach(_) = found {
-            return found;
+impl KnotView<'_, '_> {
+    // Steps 5 and 6, of a flow.
+    #[tactic(auto, using(crate::proofs::Runs::purity_found))]
+    fn validate_first_steps(&self, gathers: &mut [u8]) -> Option<BreachAt>
+        ensures { let b = self.now.knot.place.body in result ≡ found_runs (kept_story self.now.knot.index.story.source.sections b.file.now) (first_runs (kept_flow b.file.now b.kept.now self.now.flow)) }
+    {
+        if let Some(breach) = self.validate_function_purity(gathers) {
+            return Some(breach);
         }
-        at = w.end;
+        validate_flow_parameter_names(&self.knot.index.story, self.flow.name, self.flow.params)
+    }
+
+    // Steps 12 to 18, of a stitch.
+    fn validate_stitch(&self, w: StitchView, gathers: &mut [u8]) -> Option<BreachAt>
+        requires { StitchReady self.now.knot.place.body.file.now w }
+        ensures { let b = self.now.knot.place.body in result ≡ found_runs (kept_story self.now.knot.index.story.source.sections b.file.now) (stitch_runs (kept_flow b.file.now b.kept.now self.now.flow) (kept_stitch b.file.now b.kept.now w)) }
+    {
+        if let Some(breach) = validate_stitch_name(
+            &self.knot.index.story.source,
+            self.flow.name,
+            w.name,
+        ) {
+            return Some(breach);
+        }
+        let scope = stitch_scope(self.flow, w);
+        let file = self.knot.place.body.file;
+        let kept = self.knot.place.body.kept;
+        let body = BodyView { file, kept, scope };
+        let place = DeclaredView {
+            body,
+            filter: self.knot.place.filter,
+        };
+        let step = StepView {
+            index: self.knot.index,
+            place,
+        };
+        step.validate_passes(&STITCH, gathers)
+    }
+
+    // Steps 12 to 18, of the stitches of a flow one after the other.
+    fn validate_stitches(&self, gathers: &mut [u8]) -> Option<BreachAt>
+        ensures { let b = self.now.knot.place.body in let f = kept_flow b.file.now b.kept.now self.now.flow in result ≡ found_runs (kept_story self.now.knot.index.story.source.sections b.file.now) (each (stitch_runs f) f.stitches) }
+    {
+        let file = self.knot.place.body.file;
+        let end = self.flow.end;
+        let mut at = self.flow.stitches;
+        while let Some(w) = stitch_view(file, at, end) {
+            if let Some(breach) = self.validate_stitch(w, gathers) {
+                return Some(breach);
+            }
+            at = w.end;
+        }
+        None
+    }
+
+    // Steps 7 to 19, of a flow, one after the other.
+    #[tactic(auto, using(crate::proofs::Runs::own_found, crate::proofs::Runs::stitches_found, crate::proofs::Runs::stitches_passed))]
+    fn validate_unclear_flow(&self, gathers: &mut [u8]) -> Option<BreachAt>
+        ensures { let b = self.now.knot.place.body in result ≡ found_runs (kept_story self.now.knot.index.story.source.sections b.file.now) (later_runs (kept_flow b.file.now b.kept.now self.now.flow)) }
+    {
+        if let Some(breach) = self.knot.find_in_passes(&FLOW) {
+            return Some(breach);
+        }
+        if let Some(breach) = self.validate_stitches(gathers) {
+            return Some(breach);
+        }
+        self.knot.validate_passes(&GATHERS, gathers)
+    }
+
+    // Steps 7 to 19, of a flow and its stitches: where one look finds the body clear of its own steps, the stitches are left.
+    #[tactic(auto, using(crate::proofs::Runs::stitches_left))]
+    fn validate_later_steps(&self, gathers: &mut [u8]) -> Option<BreachAt>
+        ensures { let b = self.now.knot.place.body in result ≡ found_runs (kept_story self.now.knot.index.story.source.sections b.file.now) (later_runs (kept_flow b.file.now b.kept.now self.now.flow)) }
+    {
+        if self.knot.is_clear(&WHOLE_FLOW, gathers) {
+            return self.validate_stitches(gathers);
+        }
+        self.validate_unclear_flow(gathers)
+    }
+
+    // Steps 5 to 19, of a flow and its stitches.
+    #[tactic(auto, using(crate::proofs::Runs::first_found, crate::proofs::Runs::first_passed))]
+    fn validate_all_steps(&self, gathers: &mut [u8]) -> Option<BreachAt>
+        ensures { let b = self.now.knot.place.body in result ≡ found_runs (kept_story self.now.knot.index.story.source.sections b.file.now) (flow_runs (kept_flow b.file.now b.kept.now self.now.flow)) }
+    {
+        if let Some(breach) = self.validate_first_steps(gathers) {
+            return Some(breach);
+        }
+        self.validate_later_steps(gathers)
     }
 }
 
-// Steps 7 to 19, of a flow, one after the other.
-fn validate_unclear_flow(
-    file: &[u8],
-    c: Sections,
-    kept: &[u32],
-    index: &[u32],
-    count: usize,
-    functions: &[u32],
-    hints: &[u32],
-    v: FlowView,
-    declared: &[u8],
-    gathers: &mut [u8],
-) -> Found
-    requires ready { Ready file.now c index.now count functions.now }
-    requires flow_ready { FlowReady file.now kept.now v }
-    requires declared { Declared file.now kept.now v.params v.from v.stitches v.end declared.now }
-    ensures { result ≡ found_runs (kept_story c file.now) (later_runs (kept_flow file.now kept.now v)) }
-{
-    let scope = knot_scope(v);
-    let own = find_in_passes(
-        OUTER, 5, file, c, kept, index, count, functions, hints, scope, declared,
-    );
-    if let Found::Breach(_) = own {
-        return own;
-    }
-    let stitches = validate_stitches(
-        file, c, kept, index, count, functions, hints, v, declared, gathers,
-    );
-    if let Found::Breach(_) = stitches {
-        return stitches;
-    }
-    validate_passes(
-        GATHERS, 1, file, c, kept, index, count, functions, hints, scope, declared, gathers,
-    )
-}
-
-// Steps 7 to 19, of a flow and its stitches: where one look finds the body clear of its own steps, the stitches are left.
-fn validate_later_steps(
-    file: &[u8],
-    c: Sections,
-    kept: &[u32],
-    index: &[u32],
-    count: usize,
-    functions: &[u32],
-    hints: &[u32],
-    v: FlowView,
-    declared: &[u8],
-    gathers: &mut [u8],
-) -> Found
-    requires ready { Ready file.now c index.now count functions.now }
-    requires flow_ready { FlowReady file.now kept.now v }
-    requires declared { Declared file.now kept.now v.params v.from v.stitches v.end declared.now }
-    ensures { result ≡ found_runs (kept_story c file.now) (later_runs (kept_flow file.now kept.now v)) }
-{
-    if is_clear(
-        OUTER,
-        GATHERS + 1,
-        file,
-        c,
-        kept,
-        index,
-        count,
-        functions,
-        hints,
-        knot_scope(v),
-        declared,
-        gathers,
-    ) {
-        return validate_stitches(
-            file, c, kept, index, count, functions, hints, v, declared, gathers,
-        );
-    }
-    validate_unclear_flow(
-        file, c, kept, index, count, functions, hints, v, declared, gathers,
-    )
-}
-
-// Steps 5 to 19, of a flow and its stitches.
-fn validate_whole_flow(
-    file: &[u8],
-    c: Sections,
-    kept: &[u32],
-    index: &[u32],
-    count: usize,
-    functions: &[u32],
-    hints: &[u32],
-    v: FlowView,
+// Steps 5 to 19, of a flow and its stitches. The filter gets the flow's names.
+fn validate_whole_flow<'a>(
+    index: &IndexView<'a>,
+    kept: &'a [u32],
+    flow: FlowView,
     declared: &mut [u8],
     gathers: &mut [u8],
-) -> Found
-    requires ready { Ready file.now c index.now count functions.now }
-    requires flow_ready { FlowReady file.now kept.now v }
-    ensures { result ≡ found_runs (kept_story c file.now) (flow_runs (kept_flow file.now kept.now v)) }
+) -> Option<BreachAt>
+    requires { FlowReady index.now.story.source.file.now kept.now flow }
+    ensures { let c = index.now.story.source in result ≡ found_runs (kept_story c.sections c.file.now) (flow_runs (kept_flow c.file.now kept.now flow)) }
 {
-    put_declared(file, kept, v.params, v.from, v.stitches, v.end, declared);
-    let first = validate_first_steps(
-        file, c, kept, index, count, functions, hints, v, declared, gathers,
-    );
-    if let Found::Breach(_) = first {
-        return first;
-    }
-    validate_later_steps(
-        file, c, kept, index, count, functions, hints, v, declared, gathers,
-    )
+    let file = index.story.source.file;
+    let scope = knot_scope(flow);
+    put_declared(file, kept, scope, declared);
+    let body = BodyView { file, kept, scope };
+    let place = DeclaredView {
+        body,
+        filter: declared,
+    };
+    let knot = StepView {
+        index: *index,
+        place,
+    };
+    let view = KnotView { knot, flow };
+    view.validate_all_steps(gathers)
 }
 
 // How much of a filter for the names of the flow is used, of so many bytes: no more than its body and its stitches have. None where it has
@@ -236,143 +146,130 @@ fn declared_room(v: FlowView, bytes: usize) -> usize
     ensures { result ≤ bytes }
 {
     let length = v.end - v.from;
-    if v.stitches == v.end {
-        if length < 1024 {
-            return 0;
-        }
+    if v.stitches == v.end && length < 1024 {
+        return 0;
     }
-    if length < bytes {
-        return length;
-    }
-    bytes
+    length.min(bytes)
 }
 
 // Steps 5 to 19, of the flows one after the other.
-fn validate_flows(
-    file: &[u8],
-    c: Sections,
-    kept: &[u32],
-    index: &[u32],
-    count: usize,
-    functions: &[u32],
-    hints: &[u32],
+fn validate_flows<'a>(
+    index: &IndexView<'a>,
+    kept: &'a [u32],
     declared: &mut [u8],
     gathers: &mut [u8],
-) -> Found
-    requires ready { Ready file.now c index.now count functions.now }
-    requires flows_ready { FlowsReady file.now kept.now c.flows c.end }
-    ensures { result ≡ found_runs (kept_story c file.now) (each flow_runs (kept_story c file.now).flows) }
+) -> Option<BreachAt>
+    requires { let c = index.now.story.source in FlowsReady c.file.now kept.now c.sections.flows c.sections.end }
+    ensures { let c = index.now.story.source in result ≡ found_runs (kept_story c.sections c.file.now) (each flow_runs (kept_story c.sections c.file.now).flows) }
 {
-    let end = c.end;
-    let mut at = c.flows;
+    let file = index.story.source.file;
+    let end = index.story.source.sections.end;
+    let mut at = index.story.source.sections.flows;
     let mut rest = kept;
-    loop {
-        let FlowViewRead::View(v) = flow_view(file, at, end) else {
-            return Found::Clear;
-        };
+    while let Some(v) = flow_view(file, at, end) {
         let room = declared_room(v, declared.len());
-        let found = validate_whole_flow(
-            file,
-            c,
-            rest,
-            index,
-            count,
-            functions,
-            hints,
-            v,
-            &mut declared[..room],
-            gathers,
-        );
-        if let Found::Breach(_) = found {
-            return found;
+        if let Some(breach) = validate_whole_flow(index, rest, v, &mut declared[..room], gathers) {
+            return Some(breach);
         }
         at = v.end;
         let next = items_from(rest, at);
         rest = next;
     }
+    None
 }
 
 // Steps 1 to 4, at the root. The filter gets the root's labels.
-fn validate_root(
-    file: &[u8],
-    c: Sections,
-    kept: &[u32],
-    index: &[u32],
-    count: usize,
-    functions: &[u32],
-    hints: &[u32],
+fn validate_root<'a>(
+    index: &IndexView<'a>,
+    kept: &'a [u32],
     declared: &mut [u8],
     gathers: &mut [u8],
-) -> Found
-    requires ready { Ready file.now c index.now count functions.now }
-    requires kept { Kept file.now c kept.now }
-    ensures { result ≡ passes_found file.now kept.now c (root_view c (length file.now)) (passes_from 0 4) }
+) -> Option<BreachAt>
+    requires { let c = index.now.story.source in Kept c.file.now c.sections kept.now }
+    ensures { let c = index.now.story.source in result ≡ passes_found c.file.now kept.now c.sections (root_view c.sections (length c.file.now)) ROOT }
 {
-    let scope = root_scope(c, file.len());
-    put_declared(
-        file,
-        kept,
-        scope.outer,
-        scope.body,
-        scope.stitches,
-        scope.end,
-        declared,
-    );
-    validate_passes(
-        OUTER, 4, file, c, kept, index, count, functions, hints, scope, declared, gathers,
-    )
+    let file = index.story.source.file;
+    let scope = root_scope(index.story.source.sections, file.len());
+    put_declared(file, kept, scope, declared);
+    let body = BodyView { file, kept, scope };
+    let place = DeclaredView {
+        body,
+        filter: declared,
+    };
+    let root = StepView {
+        index: *index,
+        place,
+    };
+    root.validate_passes(&ROOT, gathers)
+}
+
+// Step 20, at the root.
+fn validate_root_gathers<'a>(
+    index: &IndexView<'a>,
+    kept: &'a [u32],
+    gathers: &mut [u8],
+) -> Option<BreachAt>
+    requires { let c = index.now.story.source in Kept c.file.now c.sections kept.now }
+    ensures { let c = index.now.story.source in result ≡ passes_found c.file.now kept.now c.sections (root_view c.sections (length c.file.now)) GATHERS }
+{
+    let file = index.story.source.file;
+    let scope = root_scope(index.story.source.sections, file.len());
+    let body = BodyView { file, kept, scope };
+    let place = DeclaredView {
+        body,
+        filter: &file[..0],
+    };
+    let root = StepView {
+        index: *index,
+        place,
+    };
+    root.validate_passes(&GATHERS, gathers)
+}
+
+// The steps over a story: 1 to 4 at the root, 5 to 19 of each flow, 20 at the root.
+fn validate_steps<'a>(
+    index: &IndexView<'a>,
+    kept: &'a [u32],
+    declared: &mut [u8],
+    gathers: &mut [u8],
+) -> Option<BreachAt>
+    requires { let c = index.now.story.source in Kept c.file.now c.sections kept.now }
+    ensures { let c = index.now.story.source in result ≡ found_of (verdict (story_in c.sections c.file.now)) }
+{
+    let scope = root_scope(index.story.source.sections, index.story.source.file.len());
+    let room = filter_room(scope, declared.len());
+    if let Some(breach) = validate_root(index, kept, &mut declared[..room], gathers) {
+        return Some(breach);
+    }
+    if let Some(breach) = validate_flows(index, kept, declared, gathers) {
+        return Some(breach);
+    }
+    validate_root_gathers(index, kept, gathers)
 }
 
 // The twenty steps: 1 to 4 at the root, 5 to 19 of each flow, 20 at the root. The first breach, or none.
-pub fn validate_story(
-    file: &[u8],
+pub fn validate_story<'a>(
+    file: &'a [u8],
     c: Sections,
-    kept: &[u32],
-    index: &[u32],
+    kept: &'a [u32],
+    index: &'a [u32],
     count: usize,
-    functions: &[u32],
-    hints: &[u32],
+    functions: &'a [u32],
+    hints: &'a [u32],
     declared: &mut [u8],
     gathers: &mut [u8],
-) -> Found
+) -> Option<BreachAt>
     requires ready { Ready file.now c index.now count functions.now }
     requires kept { Kept file.now c kept.now }
     ensures { result ≡ found_of (verdict (story_in c file.now)) }
 {
-    let scope = root_scope(c, file.len());
-    let room = filter_room(scope, declared.len());
-    let root = validate_root(
-        file,
-        c,
-        kept,
+    let source = FileView { file, sections: c };
+    let story = StoryView { source, functions };
+    let view = IndexView {
+        story,
         index,
         count,
-        functions,
         hints,
-        &mut declared[..room],
-        gathers,
-    );
-    if let Found::Breach(_) = root {
-        return root;
-    }
-    let flows = validate_flows(
-        file, c, kept, index, count, functions, hints, declared, gathers,
-    );
-    if let Found::Breach(_) = flows {
-        return flows;
-    }
-    validate_passes(
-        GATHERS,
-        1,
-        file,
-        c,
-        kept,
-        index,
-        count,
-        functions,
-        hints,
-        scope,
-        &file[..0],
-        gathers,
-    )
+    };
+    validate_steps(&view, kept, declared, gathers)
 }

@@ -6,6 +6,7 @@ pub mod context;
 pub mod passes;
 pub mod scopes;
 pub mod structure;
+pub mod view;
 
 use rules::Rule;
 
@@ -16,13 +17,6 @@ pub struct BreachAt {
     pub place: usize,
     pub first: usize,
     pub second: usize,
-}
-
-// The first breach, or none.
-#[derive(Clone, Copy)]
-pub enum Found {
-    Clear,
-    Breach(BreachAt),
 }
 
 // What a step looks for along a body.

@@ -49,14 +49,10 @@ pub fn stitch_scope(v: FlowView, w: StitchView) -> ScopeView
 {
     ScopeView {
         inner: true,
-        flow: v.name,
         params: w.params,
         marks: w.marks,
         from: w.from,
         to: w.to,
-        outer: v.params,
-        body: v.from,
-        stitches: v.stitches,
-        end: v.end,
+        ..knot_scope(v)
     }
 }

@@ -2,27 +2,22 @@
 ghost use Rattle.std.specs.Prelude.{◌≡◌, true, [], ◌∷◌, ◌<◌, length, drop};
 ghost use Rattle.names.specs.Words.{any};
 ghost use Rattle.story.specs.Story.{Stitch};
-ghost use Rattle.story.specs.File.{InOrder};
 ghost use Rattle.story.specs.Flows.{counted_in};
 ghost use Rattle.items.specs.Bodies.{kept_story, kept_stitches, kept_flow};
 ghost use Rattle.rules.specs.Rules.{Here, knot};
 ghost use Rattle.rules.specs.Steps.{s5, over, purity_items};
-ghost use Rattle.tables.specs.Functions.{Functions};
-ghost use Rattle.checks.specs.Context.{Ready, StitchesReady};
-ghost use Rattle.filters.specs.Names.{Declared};
+ghost use Rattle.checks.specs.Context.{StitchesReady};
 ghost use Rattle.context.specs.Found.{found_runs};
-ghost use Rattle.context.specs.Scopes.{FlowReady, params_found, stitch_name_found};
+ghost use Rattle.context.specs.Scopes.{params_found, stitch_name_found};
 
-use crate::Found;
+use crate::BreachAt;
 use crate::breaches::breach_at;
-use crate::passes::{PURITY, validate_passes};
-use crate::scopes::knot_scope;
-use checks::Judged;
-use checks::structure::{check_parameter_name, check_stitch_name};
+use crate::passes::PURITY;
+use crate::view::KnotView;
+use checks::view::{FileView, StoryView};
 use names::name_at;
 use rules::Rule;
-use searches::views::{FlowView, StitchViewRead, stitch_view};
-use story::Sections;
+use searches::views::stitch_view;
 
 // The flow has stitches.
 fn has_stitches(file: &[u8], at: usize, end: usize) -> bool
@@ -31,88 +26,58 @@ fn has_stitches(file: &[u8], at: usize, end: usize) -> bool
 {
     let view = stitch_view(file, at, end);
     match view {
-        StitchViewRead::View(_) => true,
-        StitchViewRead::None => false,
+        Some(_) => true,
+        None => false,
     }
 }
 
-// Step 5, of a flow that is a function: rule 12 at its first byte, then rules 13 and 14 along its body.
-pub fn validate_function_purity(
-    file: &[u8],
-    c: Sections,
-    kept: &[u32],
-    index: &[u32],
-    count: usize,
-    functions: &[u32],
-    hints: &[u32],
-    v: FlowView,
-    declared: &[u8],
-    gathers: &mut [u8],
-) -> Found
-    requires ready { Ready file.now c index.now count functions.now }
-    requires flow_ready { FlowReady file.now kept.now v }
-    requires declared { Declared file.now kept.now v.params v.from v.stitches v.end declared.now }
-    ensures { result ≡ found_runs (kept_story c file.now) (over (knot (kept_flow file.now kept.now v)) (purity_items v.function (kept_flow file.now kept.now v)) (s5 ∷ [])) }
-{
-    if v.function {
-        if has_stitches(file, v.stitches, v.end) {
-            return Found::Breach(breach_at(Rule::FunctionWithStitches, v.at, v.name, v.name));
+impl KnotView<'_, '_> {
+    // Step 5, of a flow that is a function: rule 12 at its first byte, then rules 13 and 14 along its body.
+    #[tactic(auto, using(crate::proofs::Runs::purity_stitched, crate::proofs::Runs::purity_body, crate::proofs::Runs::purity_skipped))]
+    pub fn validate_function_purity(&self, gathers: &mut [u8]) -> Option<BreachAt>
+        ensures { let b = self.now.knot.place.body in let f = kept_flow b.file.now b.kept.now self.now.flow in result ≡ found_runs (kept_story self.now.knot.index.story.source.sections b.file.now) (over (knot f) (purity_items self.now.flow.function f) (s5 ∷ [])) }
+    {
+        let v = self.flow;
+        if v.function {
+            if has_stitches(self.knot.place.body.file, v.stitches, v.end) {
+                return Some(breach_at(Rule::FunctionWithStitches, v.at, v.name, v.name));
+            }
+            return self.knot.validate_passes(&PURITY, gathers);
         }
-        return validate_passes(
-            PURITY,
-            1,
-            file,
-            c,
-            kept,
-            index,
-            count,
-            functions,
-            hints,
-            knot_scope(v),
-            declared,
-            gathers,
-        );
+        None
     }
-    Found::Clear
 }
 
 // Step 6: rules 4 and 5 at the parameters of the flow whose name stands at the first place.
 pub fn validate_flow_parameter_names(
-    file: &[u8],
-    c: Sections,
-    functions: &[u32],
+    story: &StoryView<'_>,
     flow: usize,
     params: usize,
-) -> Found
-    requires in_order { InOrder c file.now }
-    requires functions { Functions file.now c functions.now }
-    requires params_in_bounds { params < length file.now }
-    ensures { (h : Here) → result ≡ params_found file.now c h flow (counted_in params (drop params file.now)) }
+) -> Option<BreachAt>
+    requires { params < length story.now.source.file.now }
+    ensures { (h : Here) → result ≡ params_found story.now.source.file.now story.now.source.sections h flow (counted_in params (drop params story.now.source.file.now)) }
 {
-    let mut left = file[params];
+    let file = story.source.file;
     let mut at = params + 1;
-    while 0 < left {
+    for done in 0..file[params] {
         if file.len() <= at {
-            return Found::Clear;
+            return None;
         }
-        let judged = check_parameter_name(file, c, functions, name_at(file, at));
-        if let Judged::Broken(rule) = judged {
-            return Found::Breach(breach_at(rule, at, flow, at));
+        if let Some(rule) = story.check_parameter_name(name_at(file, at)) {
+            return Some(breach_at(rule, at, flow, at));
         }
         at = at + (1 + (file[at] as usize));
-        left -= 1;
     }
-    Found::Clear
+    None
 }
 
 // Step 12: rule 5 at the stitch's name, in the flow whose name stands at the first place.
-pub fn validate_stitch_name(file: &[u8], c: Sections, flow: usize, name: usize) -> Found
-    requires { InOrder c file.now }
-    ensures { (h : Here) → result ≡ stitch_name_found file.now c h flow name }
+#[tactic(auto, using(crate::proofs::Params::name_passed, crate::proofs::Params::name_found))]
+pub fn validate_stitch_name(source: &FileView<'_>, flow: usize, name: usize) -> Option<BreachAt>
+    ensures { (h : Here) → result ≡ stitch_name_found source.now.file.now source.now.sections h flow name }
 {
-    let judged = check_stitch_name(file, c, name_at(file, name));
-    match judged {
-        Judged::Fine => Found::Clear,
-        Judged::Broken(rule) => Found::Breach(breach_at(rule, name, flow, name)),
+    match source.check_stitch_name(name_at(source.file, name)) {
+        Some(rule) => Some(breach_at(rule, name, flow, name)),
+        None => None,
     }
 }

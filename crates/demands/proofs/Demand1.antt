@@ -1,4 +1,7 @@
 -- DEMAND 1 of the contracts of the callable functions: `demand1`. Assumes nothing.
+use Rattle.std.specs.Prelude as std
+use Rattle.fields.specs.declared.Refusal.{Refusal}
+use Rattle.story.specs.declared.Sections.{Sections}
 use mathlib.Core.Path.{◌≡◌, refl, sym, ◌∙◌, ap}
 use mathlib.Core.Bool.{Bool, true, false}
 use mathlib.Core.List.{List, []}
@@ -6,23 +9,20 @@ use mathlib.Core.Logic.{◌↔◌}
 use Prim.Native.Nat.{ℕ, ◌+◌, ◌-◌, ◌≤◌, ◌<◌}
 use native.Mathlib.Omega.{arith}
 use lib.Dec.{ltb}
+use Rattle.std.proofs.Common.{Ok, Err}
 use lib.ListN.{length, get_or, drop}
 use borrow.Author.Tests.{ltb-true, ltb-false, lt-ltb, le-ltb}
 use Rattle.fields.specs.Bytes.{pick}
 use Rattle.records.specs.Numbers.{kept_numbers}
 use Rattle.records.specs.Buffers.{overlay, fill, cleared}
-use Rattle.story.specs.declared.Opened.{Opened}
-use Rattle.story.specs.declared.Opened.TheVariants as opened
-use Rattle.story.specs.declared.StoryRead.{StoryRead}
 use Rattle.story.specs.Story.{Story, story_items}
 use Rattle.story.specs.File.{start_at, read_of, story_in}
 use Rattle.story.specs.Results as read
 use Rattle.symbols.specs.Numbers.{index_room}
 use Rattle.symbols.specs.Placed.{placed, index_of}
 use Rattle.rules.specs.Reader.{Readable, story_at, story_of}
-use Rattle.validator.specs.declared.Answer.{Answer}
-use Rattle.validator.specs.declared.Answer.TheVariants.{Accepted, Breached, Unreadable as UnreadableFile, ShortIndex, ShortMessage}
-use Rattle.validator.specs.Results.{Judged, accepted, breach, Result, refused, checked, result_of}
+use Rattle.validator.specs.declared.Verdict.TheVariants.{Accepted, Breached}
+use Rattle.validator.specs.Results.{Judged, accepted, breach, Result, refused, checked, Answer, result_of}
 use Rattle.validator.specs.Check.{Report, refusing, story_report, report_at, report_of}
 use Rattle.validator.specs.Checked.{Checked}
 use Rattle.validator.proofs.Demand.{story-reported}
@@ -57,9 +57,9 @@ module _ (file : List ℕ) (index message : ℕ) where
       by_tests none s false true p q f = let same : 8 ≡ n = cc in rw (← same) (refusal_8 none (ltb-false index (index_room file) p) (ltb-true message 640 q))
       by_tests none s false false p q f = let z : ◌≡◌ {A = ℕ} 0 1 = cc in absurd (omega arith)
 
-      by-opened : (o : Opened) → read_of file ≡ o → (report_at o file index message).result ≡ refused n → Unchecked file index message n
-      by-opened (opened.Refused r) e f = unindexed (unreadable ((unreadable-exactly file n).0 (r, e, cc)))
-      by-opened (opened.At c) e f =
+      by-opened : (o : std.Result Sections Refusal) → read_of file ≡ o → (report_at o file index message).result ≡ refused n → Unchecked file index message n
+      by-opened (Err r) e f = unindexed (unreadable ((unreadable-exactly file n).0 (r, e, cc)))
+      by-opened (Ok c) e f =
           by_tests ((readable-exactly file).0 (record { sections = c; told = e })) (story_in c file) (ltb index (index_room file)) (ltb message 640) refl refl f
 
   pub judged-so : {j : Judged} {entries size : ℕ} → (report_of file index message).result ≡ checked j entries size
@@ -73,10 +73,10 @@ module _ (file : List ℕ) (index message : ℕ) where
       by_tests s false true f = let z : ◌≡◌ {A = ℕ} 0 1 = cc in absurd (omega arith)
       by_tests s false false f = refl
 
-      by-opened : (o : Opened) → read_of file ≡ o → (report_at o file index message).result ≡ checked j entries size
+      by-opened : (o : std.Result Sections Refusal) → read_of file ≡ o → (report_at o file index message).result ≡ checked j entries size
           → NoneApplies file × (report_at o file index message ≡ story_report file (story_at o file))
-      by-opened (opened.Refused r) e f = let z : ◌≡◌ {A = ℕ} 0 1 = cc in absurd (omega arith)
-      by-opened (opened.At c) e f =
+      by-opened (Err r) e f = let z : ◌≡◌ {A = ℕ} 0 1 = cc in absurd (omega arith)
+      by-opened (Ok c) e f =
           ((readable-exactly file).0 (record { sections = c; told = e }), by_tests (story_in c file) (ltb index (index_room file)) (ltb message 640) f)
 
 -- the numbers of a story's report are its index
@@ -88,11 +88,9 @@ story-index file s index = refl
 
 accepted-size : (r : Answer) {entries size : ℕ} → result_of r ≡ checked accepted entries size → size ≡ 0
 unfolding result_of
-accepted-size (Accepted n) e = cc
-accepted-size (Breached b) e = let z : ◌≡◌ {A = ℕ} 0 1 = cc in absurd (omega arith)
-accepted-size (UnreadableFile r) e = let z : ◌≡◌ {A = ℕ} 0 1 = cc in absurd (omega arith)
-accepted-size ShortIndex e = let z : ◌≡◌ {A = ℕ} 0 1 = cc in absurd (omega arith)
-accepted-size ShortMessage e = let z : ◌≡◌ {A = ℕ} 0 1 = cc in absurd (omega arith)
+accepted-size (Ok (Accepted n)) e = cc
+accepted-size (Ok (Breached b)) e = cc
+accepted-size (Err r) e = cc
 
 pub check-claim : CheckClaim Checked
 check-claim = record {
@@ -126,9 +124,9 @@ module _ (file : List ℕ) (index : ℕ) (target : List ℕ) where
       by-test none s true p f = let same : 7 ≡ n = cc in rw (← same) (refusal_7 none (ltb-true index (index_room file) p))
       by-test none s false p f = let z : ◌≡◌ {A = ℕ} 0 1 = cc in absurd (omega arith)
 
-      by-opened : (o : Opened) → read_of file ≡ o → lookup_at o file index target ≡ lookup.refused n → Unindexed file index n
-      by-opened (opened.Refused r) e f = unreadable ((unreadable-exactly file n).0 (r, e, cc))
-      by-opened (opened.At c) e f = by-test ((readable-exactly file).0 (record { sections = c; told = e })) (story_in c file) (ltb index (index_room file)) refl f
+      by-opened : (o : std.Result Sections Refusal) → read_of file ≡ o → lookup_at o file index target ≡ lookup.refused n → Unindexed file index n
+      by-opened (Err r) e f = unreadable ((unreadable-exactly file n).0 (r, e, cc))
+      by-opened (Ok c) e f = by-test ((readable-exactly file).0 (record { sections = c; told = e })) (story_in c file) (ltb index (index_room file)) refl f
 
 lookup-answered : (file index target : List ℕ) {a : lookup.Answer} {n : ℕ} → lookup_of file (length index) target ≡ lookup.answered a n
     → NoneApplies file × (lookup_index file index ≡ index_of (story_of file) index)
@@ -139,10 +137,10 @@ lookup-answered file index target {a} {n} e = by-opened (read_of file) refl e
     by-test s true f = let z : ◌≡◌ {A = ℕ} 0 1 = cc in absurd (omega arith)
     by-test s false f = refl
 
-    by-opened : (o : Opened) → read_of file ≡ o → lookup_at o file (length index) target ≡ lookup.answered a n
+    by-opened : (o : std.Result Sections Refusal) → read_of file ≡ o → lookup_at o file (length index) target ≡ lookup.answered a n
         → NoneApplies file × (index_at o file index ≡ index_of (story_at o file) index)
-    by-opened (opened.Refused r) e f = let z : ◌≡◌ {A = ℕ} 0 1 = cc in absurd (omega arith)
-    by-opened (opened.At c) e f = ((readable-exactly file).0 (record { sections = c; told = e }), by-test (story_in c file) (ltb (length index) (index_room file)) f)
+    by-opened (Err r) e f = let z : ◌≡◌ {A = ℕ} 0 1 = cc in absurd (omega arith)
+    by-opened (Ok c) e f = ((readable-exactly file).0 (record { sections = c; told = e }), by-test (story_in c file) (ltb (length index) (index_room file)) f)
 
 pub lookup-claim : LookupClaim Looked
 lookup-claim = record {
@@ -280,12 +278,12 @@ lookup-call-claim = record {
 
 -- 6. Reading
 
-module _ (file items : List ℕ) {r : StoryRead} {items' : List ℕ} (p : read.ReadAs file items r items') where
+module _ (file items : List ℕ) {r : std.Result (Sections × ℕ × ℕ) Refusal} {items' : List ℕ} (p : read.ReadAs file items r items') where
   -- a refusal's number is that of what opening the file refuses
-  read-unreadable : (n : ℕ) (o : Opened) → read_of file ≡ o → read.read_result_of (read.answer_of o file) ≡ read.refused n → Unreadable file n
+  read-unreadable : (n : ℕ) (o : std.Result Sections Refusal) → read_of file ≡ o → read.read_result_of (read.answer_of o file) ≡ read.refused n → Unreadable file n
   unfolding read.read_result_of read.answer_of
-  read-unreadable n (opened.Refused x) e f = (unreadable-exactly file n).0 (x, e, cc)
-  read-unreadable n (opened.At c) e f = let z : ◌≡◌ {A = ℕ} 0 1 = cc in absurd (omega arith)
+  read-unreadable n (Err x) e f = (unreadable-exactly file n).0 (x, e, cc)
+  read-unreadable n (Ok c) e f = let z : ◌≡◌ {A = ℕ} 0 1 = cc in absurd (omega arith)
 
   read-refuses : (n : ℕ) → (read.read_result_of r ≡ read.refused n) ↔ Unreadable file n
   unfolding read.reading_of read.read_result_of read.answer_of

@@ -1,4 +1,5 @@
 -- The definition of reading refuses with a number exactly in the case that is stated for it: `unreadable-exactly`, `readable-exactly`. Assumes nothing.
+use Rattle.std.specs.Prelude.{Result, Ok, Err}
 use mathlib.Core.Path.{◌≡◌, refl, sym, ◌∙◌}
 use mathlib.Core.Bool.{Bool, true, false, not, ◌&&◌, ◌||◌, true≢false}
 use mathlib.Core.List.{List, [], ◌∷◌}
@@ -15,8 +16,6 @@ use Rattle.fields.specs.declared.Refusal.TheVariants.{Length, Mark, Starts}
 use Rattle.fields.specs.Refusals.{refusal_number}
 use Rattle.records.specs.Trace.{Ending, well, refused, ends}
 use Rattle.story.specs.declared.Sections.{Sections}
-use Rattle.story.specs.declared.Opened.{Opened}
-use Rattle.story.specs.declared.Opened.TheVariants as opened
 use Rattle.story.specs.File.{bad_length, marked, start_at, ordered, sections_of, opened_of, sections_read, read_ended, read_at, read_of}
 use Rattle.story.proofs.Endings.{then_ends}
 use Rattle.story.proofs.Opening.{sections-end}
@@ -143,25 +142,25 @@ module _ (file : List ℕ) where
 
   -- 3. Reading, by the tests on the trailer
 
-  read_length : bad_length file ≡ true → read_of file ≡ opened.Refused Length
+  read_length : bad_length file ≡ true → read_of file ≡ Err Length
   unfolding read_of read_at opened_of
   read_length e = rw e
 
-  read-mark : bad_length file ≡ false → marked file ≡ false → read_of file ≡ opened.Refused Mark
+  read-mark : bad_length file ≡ false → marked file ≡ false → read_of file ≡ Err Mark
   unfolding read_of read_at opened_of
   read-mark e m = rw (e, m)
 
-  read-starts : bad_length file ≡ false → marked file ≡ true → ordered file ≡ false → read_of file ≡ opened.Refused Starts
+  read-starts : bad_length file ≡ false → marked file ≡ true → ordered file ≡ false → read_of file ≡ Err Starts
   unfolding read_of read_at opened_of
   read-starts e m o = rw (e, m, o)
 
   read-sections : bad_length file ≡ false → marked file ≡ true → ordered file ≡ true
-      → read_of file ≡ read_ended (ends (sections_read (sections_of file) file)) (opened.At (sections_of file))
+      → read_of file ≡ read_ended (ends (sections_read (sections_of file) file)) (Ok (sections_of file))
   unfolding read_of read_at opened_of
   read-sections e m o = rw (e, m, o)
 
   -- what is stated is what reading answers
-  reads_so : {n : ℕ} → Unreadable file n → (r : Refusal) × (read_of file ≡ opened.Refused r) × (refusal_number r ≡ n)
+  reads_so : {n : ℕ} → Unreadable file n → (r : Refusal) × (read_of file ≡ Err r) × (refusal_number r ≡ n)
   unfolding refusal_number read_ended
   reads_so (refusal_1 h) = (Length, read_length (bad-length h), refl)
   reads_so (refusal_2 l m) = (Mark, read-mark (good_length l) (not-marked (marked file) refl), refl)
@@ -179,12 +178,12 @@ module _ (file : List ℕ) where
       (end.0, read-sections (good_length l) (good-mark l m) (good-starts s) ∙ rw end.1, end.2)
 
   -- what reading answers is what is stated
-  stated-so : (r : Refusal) → read_of file ≡ opened.Refused r → Unreadable file (refusal_number r)
+  stated-so : (r : Refusal) → read_of file ≡ Err r → Unreadable file (refusal_number r)
   unfolding refusal_number read_ended
   stated-so r e = by_length (length-told (ltb (length file) 20) (ltb 1048576 (length file)) refl refl)
     where
       by_end : (l : GoodLength file) → Marked file → (s : GoodStarts file) → (x : Ending) → ends (sections_read (sections_of file) file) ≡ x
-          → read_of file ≡ read_ended x (opened.At (sections_of file)) → Unreadable file (refusal_number r)
+          → read_of file ≡ read_ended x (Ok (sections_of file)) → Unreadable file (refusal_number r)
       by_end l m s (refused y) q f = let same : y ≡ r = cc in refusals_4_to_6 l m s (first-met s r (rw same at q))
       by_end l m s well q f = let z : ◌≡◌ {A = ℕ} 0 1 = cc in absurd (omega arith)
 
@@ -207,23 +206,23 @@ module _ (file : List ℕ) where
       by_length (inr (q, l)) = by-mark l (marked file) refl
 
 -- REFUSALS 1 TO 6: reading refuses with the number exactly in its stated case
-pub unreadable-exactly : (file : List ℕ) (n : ℕ) → ((r : Refusal) × (read_of file ≡ opened.Refused r) × (refusal_number r ≡ n)) ↔ Unreadable file n
+pub unreadable-exactly : (file : List ℕ) (n : ℕ) → ((r : Refusal) × (read_of file ≡ Err r) × (refusal_number r ≡ n)) ↔ Unreadable file n
 unreadable-exactly file n = (λ p. rw p.2 at (stated-so file p.0 p.1), reads_so file)
 
 -- a file is readable exactly when none of them applies
 pub readable-exactly : (file : List ℕ) → Readable file ↔ NoneApplies file
 readable-exactly file = (λ r n u. let p = reads_so file u in let z : ◌≡◌ {A = ℕ} 0 1 = cc (r.told, p.1) in absurd (omega arith), by-opened (read_of file) refl)
   where
-    by-opened : (o : Opened) → read_of file ≡ o → NoneApplies file → Readable file
-    by-opened (opened.At c) e h = record { sections = c; told = e }
-    by-opened (opened.Refused r) e h = absurd (h (refusal_number r) (stated-so file r e))
+    by-opened : (o : Result Sections Refusal) → read_of file ≡ o → NoneApplies file → Readable file
+    by-opened (Ok c) e h = record { sections = c; told = e }
+    by-opened (Err r) e h = absurd (h (refusal_number r) (stated-so file r e))
 
 -- the sections of a readable file are those that its trailer has
-pub sections-read : (file : List ℕ) (c : Sections) → read_of file ≡ opened.At c → c ≡ sections_of file
+pub sections-read : (file : List ℕ) (c : Sections) → read_of file ≡ Ok c → c ≡ sections_of file
 unfolding read_ended
 sections-read file c told = by_tests (bad_length file) (marked file) (ordered file) refl refl refl
   where
-    by_end : (x : Ending) → read_of file ≡ read_ended x (opened.At (sections_of file)) → c ≡ sections_of file
+    by_end : (x : Ending) → read_of file ≡ read_ended x (Ok (sections_of file)) → c ≡ sections_of file
     by_end well e = cc
     by_end (refused r) e = let z : ◌≡◌ {A = ℕ} 0 1 = cc in absurd (omega arith)
 

@@ -1,20 +1,20 @@
 -- DEMAND 1 as a single claim on every callable function, for any bytes and any buffers: it refuses exactly in the stated cases, judges nothing
 -- unreadable, and leaves each buffer as stated. That nothing is read or written outside what was lent, and that every call ends, is proved of
 -- the code itself. A function is any relation between what it is lent and what it returns and leaves; nothing is supposed of it.
-use Rattle.std.specs.Prelude.{ℕ, ◌-◌, ◌≤◌, ◌<◌, ◌≡◌, List, ◌↔◌, length, get_or, drop}
+use Rattle.fields.specs.declared.Refusal.{Refusal}
+use Rattle.story.specs.declared.Sections.{Sections}
+use Rattle.std.specs.Prelude.{ℕ, ◌-◌, ◌≤◌, ◌<◌, ◌≡◌, List, ◌↔◌, length, get_or, drop, Result}
 use Rattle.records.specs.Numbers.{kept_numbers}
 use Rattle.records.specs.Buffers.{overlay, fill, cleared}
-use Rattle.story.specs.declared.StoryRead.{StoryRead}
 use Rattle.story.specs.Story.{story_items}
 use Rattle.story.specs.Results as read
 use Rattle.symbols.specs.Placed.{index_of}
 use Rattle.rules.specs.Reader.{story_of}
-use Rattle.validator.specs.declared.Answer.{Answer}
-use Rattle.validator.specs.Results.{Judged, accepted, refused, checked, result_of}
+use Rattle.validator.specs.Results.{Judged, accepted, refused, checked, Answer, result_of}
 use Rattle.validator.specs.Check.{story_report}
 use Rattle.validator.specs.Demand.{Checks}
-use Rattle.lookups.specs.declared.LookupAnswer.{LookupAnswer}
 use Rattle.lookups.specs.Results as lookup
+use Rattle.lookups.specs.Results.{LookupAnswer}
 use Rattle.lines.specs.Lines.{refused_line, report_line, line_room, line_of}
 use Rattle.demands.specs.Refusals.{start, Unreadable, NoneApplies, Unindexed, Unchecked}
 
@@ -22,18 +22,18 @@ use Rattle.demands.specs.Refusals.{start, Unreadable, NoneApplies, Unindexed, Un
 
 -- file, the buffer for numbers, the answer, and the buffer afterwards
 abbrev pub Reads : Type 1
-Reads = List ℕ → List ℕ → StoryRead → List ℕ → Type 0
+Reads = List ℕ → List ℕ → Result (Sections × ℕ × ℕ) Refusal → List ℕ → Type 0
 
 -- reading: refusals 1 to 6, else the sections that the trailer has, how many items of the story are not plain, and how many there are.
 -- A refusal leaves 0 in every slot of the buffer. Of a readable file it has the numbers of all items that are not plain, as far as it
 -- reaches, and the rest stays.
 pub record ReadClaim (Read : Reads) : Type 0 where
-  pub refuses : (file items : List ℕ) (r : StoryRead) (items' : List ℕ) → Read file items r items' → (n : ℕ) → (read.read_result_of r ≡ read.refused n) ↔ Unreadable file n
-  pub reads : (file items : List ℕ) (r : StoryRead) (items' : List ℕ) → Read file items r items' → NoneApplies file
+  pub refuses : (file items : List ℕ) (r : Result (Sections × ℕ × ℕ) Refusal) (items' : List ℕ) → Read file items r items' → (n : ℕ) → (read.read_result_of r ≡ read.refused n) ↔ Unreadable file n
+  pub reads : (file items : List ℕ) (r : Result (Sections × ℕ × ℕ) Refusal) (items' : List ℕ) → Read file items r items' → NoneApplies file
       → read.read_result_of r
       ≡ read.sections (start file 1) (start file 2) (start file 3) (length file - 20) (length (kept_numbers (story_items (story_of file)))) (length (story_items (story_of file)))
-  pub refusal_clears : (file items : List ℕ) (r : StoryRead) (items' : List ℕ) → Read file items r items' → (n : ℕ) → Unreadable file n → items' ≡ cleared items
-  pub keeps_story : (file items : List ℕ) (r : StoryRead) (items' : List ℕ) → Read file items r items' → NoneApplies file
+  pub refusal_clears : (file items : List ℕ) (r : Result (Sections × ℕ × ℕ) Refusal) (items' : List ℕ) → Read file items r items' → (n : ℕ) → Unreadable file n → items' ≡ cleared items
+  pub keeps_story : (file items : List ℕ) (r : Result (Sections × ℕ × ℕ) Refusal) (items' : List ℕ) → Read file items r items' → NoneApplies file
       → items' ≡ fill 0 (kept_numbers (story_items (story_of file))) items
 
 -- file, index, target, the answer, and the index afterwards

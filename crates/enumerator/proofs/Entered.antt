@@ -20,7 +20,7 @@ use Rattle.enumerator.specs.Visited.{Visited}
 use Rattle.enumerator.specs.Entered.{Entered}
 use Rattle.symbols.proofs.Placed.{placed-length}
 use Rattle.enumerator.proofs.Spelled.{places-spelled}
-use Rattle.enumerator.proofs.Visited.{visited-count}
+use Rattle.enumerator.specs.Laws.{visited-count}
 
 -- the entries of the file were visited, from an empty set on
 pub entered : (c : Sections) {file target index set index' set' : List ℕ} {found : Bool} {seen : Seen} → Empty set

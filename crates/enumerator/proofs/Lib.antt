@@ -1,7 +1,5 @@
 -- The laws on entries that are visited.
 pub mod Entered
-pub mod Labels
-pub mod Parts
 pub mod Ready
 pub mod Spelled
 pub mod Stored

@@ -1,10 +1,13 @@
 -- Entries stored one after the other: counted in any case; where there is room for all of them, the index is that of `symbols`. Assumes nothing.
-use mathlib.Core.Path.{◌≡◌, refl, ◌∙◌}
-use mathlib.Core.List.{List, [], ◌∷◌, ◌++◌}
+use mathlib.Core.Path.{◌≡◌, refl, ◌∙◌, ap}
+use mathlib.Core.Bool.{Bool, true, false}
+use lib.Dec.{ltb}
+use Rattle.fields.specs.Bytes.{pick}
+use mathlib.Core.List.{List, [], ◌∷◌}
 use Prim.Native.Nat.{ℕ, ◌+◌, ◌*◌, ◌/◌, ◌≤◌, ◌<◌}
 use native.Mathlib.Omega.{arith}
 use lib.ListN.{length, length-set}
-use borrow.Author.Tests.{lt-ltb, le-ltb}
+use borrow.Author.Tests.{lt-ltb}
 use Rattle.story.specs.declared.Sections.{Sections}
 use Rattle.story.specs.File.{story_in}
 use Rattle.story.proofs.Readable.{Readable}
@@ -20,27 +23,20 @@ use Rattle.enumerator.specs.Numbers.{store, store_all}
 
 -- 1. One entry
 
--- where there is no room, it is counted
-pub store-full : (p : Places) {index : List ℕ} {n : ℕ} → length index / 3 ≤ n → st index (n + 1) ≡ store (st index n) p
-unfolding store
-store-full p {index} {n} h = rw (le-ltb n (length index / 3) h)
+-- it is stored as by `symbols`, and counted in any case
+pub store-counted : (p : Places) (index : List ℕ) (n : ℕ) {index' : List ℕ} {m : ℕ} → st index' m ≡ room.store (st index n) p → st index' (n + 1) ≡ store (st index n) p
+unfolding store room.store
+store-counted p index n e = ap (λ (s : St). st s.index (n + 1)) e ∙ by-room (ltb n (length index / 3))
+  where
+    by-room : (b : Bool) → st (pick b (st (noted n p index) (n + 1)) (st index n)).index (n + 1) ≡ st (pick b (noted n p index) index) (n + 1)
+    by-room true = refl
+    by-room false = refl
 
-pub store-room : (p : Places) (index : List ℕ) (n : ℕ) → n < length index / 3 → st (noted n p index) (n + 1) ≡ store (st index n) p
+store-room : (p : Places) (index : List ℕ) (n : ℕ) → n < length index / 3 → st (noted n p index) (n + 1) ≡ store (st index n) p
 unfolding store
 store-room p index n h = rw (lt-ltb n (length index / 3) h)
 
 -- 2. Many
-
-pub store-append : (ps qs : List Places) (s : St) → store_all s (ps ++ qs) ≡ store_all (store_all s ps) qs
-unfolding store_all
-store-append [] qs s = refl
-store-append (p ∷ ps) qs s = store-append ps qs (store s p)
-
--- each is counted
-pub store-count : (ps : List Places) (s : St) → (store_all s ps).count ≡ s.count + length ps
-unfolding store store_all
-store-count [] s = omega arith
-store-count (p ∷ ps) s = omega (arith, store-count ps (store s p))
 
 -- where there is room for all, they are stored as by `symbols`
 pub store-as-room : (ps : List Places) (index : List ℕ) (n : ℕ) → 3 * (n + length ps) ≤ length index → store_all (st index n) ps ≡ room.store_all (st index n) ps

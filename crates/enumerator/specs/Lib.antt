@@ -2,3 +2,4 @@
 pub mod Numbers
 pub mod Visited
 pub mod Entered
+pub mod Laws

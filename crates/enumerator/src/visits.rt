@@ -10,22 +10,16 @@ ghost use Rattle.targets.specs.Entries.{PlacesFit, Put};
 ghost use Rattle.enumerator.specs.Visited.{Ready, Visited};
 
 use crate::Seen;
-use symbols::targets::fit_entry;
-use symbols::{Fit, Places};
-use targets::put_entry;
+use symbols::Places;
+use symbols::entries::put_entry;
+use symbols::targets::is_answer;
 
 // Stores an entry after the n visited before it, where the index has room; how many were visited now.
 fn store_entry(index: &mut [u32], n: usize, p: Places) -> usize
     requires { n < 1048576 }
     ensures { st index.new result ≡ store (st index.old n) p }
 {
-    if index.len() / 3 <= n {
-        return n + 1;
-    }
-    let at = 3 * n;
-    index[at] = p.flow;
-    index[at + 1] = p.stitch;
-    index[at + 2] = p.own;
+    put_entry(index, n, p);
     n + 1
 }
 
@@ -33,11 +27,7 @@ fn store_entry(index: &mut [u32], n: usize, p: Places) -> usize
 fn is_crowded(set: &[u64]) -> bool
     ensures { result ≡ not (eqb (get_or set.now (length set.now - 1) 0) 0) }
 {
-    if set.len() == 0 {
-        return false;
-    }
-    let last = set.len() - 1;
-    set[last] != 0
+    set.last().is_some_and(|&last| last != 0)
 }
 
 // Puts the targets of an entry into the set, unless one was left out before and the set is filled up to its end; whether one is left out now.
@@ -46,29 +36,18 @@ fn put_targets(file: &[u8], p: Places, set: &mut [u64], left: bool) -> bool
     requires reachable { Reachable (end_slots file.now) set.old }
     ensures { Put file.now (p ∷ []) set.old set.new left result }
 {
-    if left {
-        if is_crowded(set) {
-            return true;
-        }
-        put_entry(file, p, set);
+    if left && is_crowded(set) {
         return true;
     }
-    put_entry(file, p, set)
+    let full = targets::put_entry(file, p, set).is_err();
+    left || full
 }
 
 // The target was found before, or the entry answers it.
 fn ask_entry(file: &[u8], p: Places, target: &[u8], found: bool) -> bool
     ensures { result ≡ found || answers target.now (spelling_in file.now p) }
 {
-    if found {
-        return true;
-    }
-    let fit = fit_entry(file, p, target);
-    match fit {
-        Fit::Exact => true,
-        Fit::Ending => true,
-        Fit::Differs => false,
-    }
+    found || is_answer(file, p, target)
 }
 
 // Visits an entry: stores and counts it, puts its targets, and compares the target where it was not found before.

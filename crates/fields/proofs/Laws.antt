@@ -1,4 +1,5 @@
 -- What was read at the front of some bytes lies within them; and the place after it, or the refusal, as the code learns them. Assumes nothing.
+use Rattle.std.specs.Prelude.{Result, Ok, Err}
 use mathlib.Core.Path.{◌≡◌, refl, sym, ap, ◌∙◌}
 use mathlib.Core.List.{List}
 use mathlib.Core.Bool.{Bool, true, false}
@@ -9,14 +10,10 @@ use lib.ListN.{length, get_or, take, drop, length-take, length-drop}
 use lib.Seq.{take_all, get_or-take}
 use lib.Arith.{lt_of_le-ne}
 use borrow.Author.Tests.{eqb-true, ltb-false, lt-ltb, le-ltb}
+use Rattle.std.specs.Result.{IsErrAnd}
+use Rattle.std.proofs.lemmas.Result.{err_from_is_err_and}
 use Rattle.fields.specs.declared.Refusal.{Refusal}
 use Rattle.fields.specs.declared.Refusal.TheVariants.{Short, Unknown}
-use Rattle.fields.specs.declared.Reach.{Reach}
-use Rattle.fields.specs.declared.Reach.TheVariants as reach
-use Rattle.fields.specs.declared.HeadRead.{HeadRead}
-use Rattle.fields.specs.declared.HeadRead.TheVariants as head_read
-use Rattle.fields.specs.declared.FlagRead.{FlagRead}
-use Rattle.fields.specs.declared.FlagRead.TheVariants as flag
 use Rattle.fields.specs.Bytes.{Head, Span, pick, le32_at, head_of, list_of, name_of, flag_of, span_reach, read_of_head}
 
 -- w bytes, then the m bytes that they announce: an answer z that is not the refusal x is y, and they fit
@@ -135,8 +132,8 @@ pub to_end : (a : ℕ) (s : List ℕ) → take (length s - a) (drop a s) ≡ dro
 to_end a s = take_all (length s - a) (drop a s) (omega (arith, length-drop a s))
 
 -- the place after a list or a name, and the refusal, as the code learns them
-module _ (w : ℕ) (x : Span) {r : Reach} (e : r ≡ span_reach w x) where
-  pub span_to : (to : ℕ) → r ≡ reach.To to → (x ≡ Span.Bytes (to - w)) × (w + (to - w) ≡ to)
+module _ (w : ℕ) (x : Span) {r : Result ℕ Refusal} (e : r ≡ span_reach w x) where
+  pub span_to : (to : ℕ) → r ≡ Ok to → (x ≡ Span.Bytes (to - w)) × (w + (to - w) ≡ to)
   unfolding span_reach
   span_to to q = by_span x e
     where
@@ -144,7 +141,7 @@ module _ (w : ℕ) (x : Span) {r : Reach} (e : r ≡ span_reach w x) where
       by_span (Span.Bytes n) p = let z : w + n ≡ to = cc in let back : n ≡ to - w = omega (arith, z) in (ap Span.Bytes back, omega (arith, z))
       by_span (Span.Refused y) p = let z : ◌≡◌ {A = ℕ} 0 1 = cc in absurd (omega arith)
 
-  pub span-refused : (y : Refusal) → r ≡ reach.Refused y → x ≡ Span.Refused y
+  pub span-refused : (y : Refusal) → r ≡ Err y → x ≡ Span.Refused y
   unfolding span_reach
   span-refused y q = by_span x e
     where
@@ -152,21 +149,30 @@ module _ (w : ℕ) (x : Span) {r : Reach} (e : r ≡ span_reach w x) where
       by_span (Span.Bytes n) p = let z : ◌≡◌ {A = ℕ} 0 1 = cc in absurd (omega arith)
       by_span (Span.Refused z) p = ap Span.Refused cc
 
+-- what a `?` hands on is the refusal that it met
+pub handed_on : {T : Type 0} {x : Refusal} (r : Result T Refusal) → IsErrAnd r (λ e. e ≡ x) → r ≡ Err x
+handed_on r h = let p = err_from_is_err_and r h in rw (p.1, p.2)
+
+-- two pairs that are the same in a result have the same parts
+pub same_pair : {A B E : Type 0} {a c : A} {b d : B} → ◌≡◌ {A = Result (A × B) E} (Ok (a, b)) (Ok (c, d)) → (a ≡ c) × (b ≡ d)
+same_pair {A} {B} {E} {a} {c} {b} {d} e = let z : ◌≡◌ {A = A × B} (a, b) (c, d) = cc in (ap (λ p. p.0) z, ap (λ p. p.1) z)
+
 -- the place after a record, and the refusal, as the code learns them
-module _ (x : Head) {r : HeadRead} (e : r ≡ read_of_head x) where
-  pub head-to : (kind to : ℕ) → r ≡ head_read.To kind to → (x ≡ Head.Piece kind (to - 5)) × (5 + (to - 5) ≡ to)
+module _ (x : Head) {r : Result (ℕ × ℕ) Refusal} (e : r ≡ read_of_head x) where
+  pub head-to : (kind to : ℕ) → r ≡ Ok (kind, to) → (x ≡ Head.Piece kind (to - 5)) × (5 + (to - 5) ≡ to)
   unfolding read_of_head
   head-to kind to q = by-head x e
     where
       by-head : (y : Head) → r ≡ read_of_head y → (y ≡ Head.Piece kind (to - 5)) × (5 + (to - 5) ≡ to)
       by-head (Head.Piece j n) p =
-          let z : 5 + n ≡ to = cc in
-          let same : j ≡ kind = cc in
+          let parts = same_pair {E = Refusal} (sym p ∙ q) in
+          let z : 5 + n ≡ to = parts.1 in
+          let same : j ≡ kind = parts.0 in
           let back : n ≡ to - 5 = omega (arith, z) in
           (rw (same, back), omega (arith, z))
       by-head (Head.Refused y) p = let z : ◌≡◌ {A = ℕ} 0 1 = cc in absurd (omega arith)
 
-  pub head-refused : (y : Refusal) → r ≡ head_read.Refused y → x ≡ Head.Refused y
+  pub head-refused : (y : Refusal) → r ≡ Err y → x ≡ Head.Refused y
   unfolding read_of_head
   head-refused y q = by-head x e
     where
@@ -175,48 +181,51 @@ module _ (x : Head) {r : HeadRead} (e : r ≡ read_of_head x) where
       by-head (Head.Refused z) p = ap Head.Refused cc
 
 -- the place after lies within the bytes
-pub name-within : (s : List ℕ) (to : ℕ) {r : Reach} → r ≡ span_reach 1 (name_of s) → r ≡ reach.To to → (1 ≤ to) × (to ≤ length s)
+pub name-within : (s : List ℕ) (to : ℕ) {r : Result ℕ Refusal} → r ≡ span_reach 1 (name_of s) → r ≡ Ok to → (1 ≤ to) × (to ≤ length s)
 name-within s to e q = let h = span_to 1 (name_of s) e to q in omega (arith, h.1, name-fits s (to - 1) refl h.0)
 
-pub list-within : (s : List ℕ) (to : ℕ) {r : Reach} → r ≡ span_reach 4 (list_of s) → r ≡ reach.To to → (4 ≤ to) × (to ≤ length s)
+pub list-within : (s : List ℕ) (to : ℕ) {r : Result ℕ Refusal} → r ≡ span_reach 4 (list_of s) → r ≡ Ok to → (4 ≤ to) × (to ≤ length s)
 list-within s to e q = let h = span_to 4 (list_of s) e to q in omega (arith, h.1, list-fits s (to - 4) refl h.0)
 
-pub head-within : (s : List ℕ) (kind to : ℕ) {r : HeadRead} → r ≡ read_of_head (head_of s) → r ≡ head_read.To kind to → (5 ≤ to) × (to ≤ length s)
+pub head-within : (s : List ℕ) (kind to : ℕ) {r : Result (ℕ × ℕ) Refusal} → r ≡ read_of_head (head_of s) → r ≡ Ok (kind, to) → (5 ≤ to) × (to ≤ length s)
 head-within s kind to e q = let h = head-to (head_of s) e kind to q in omega (arith, h.1, head-fits s kind (to - 5) refl h.0)
 
 -- where there is a flag, there is a byte
-flag-fits : (s : List ℕ) (r : FlagRead) → r ≡ flag_of s → ((x : Refusal) → r ≡ flag.Refused x → ⊥) → 1 ≤ length s
+flag-fits : (s : List ℕ) (r : Result Bool Refusal) → r ≡ flag_of s → ((x : Refusal) → r ≡ Err x → ⊥) → 1 ≤ length s
 unfolding flag_of
 flag-fits s r e told = by-test (ltb (length s) 1) refl e
   where
     by-test : (i : Bool) → ltb (length s) 1 ≡ i
-        → r ≡ pick i (flag.Refused Short) (pick (eqb (get_or s 0 0) 0) flag.Off (pick (eqb (get_or s 0 0) 1) flag.On (flag.Refused Unknown))) → 1 ≤ length s
+        → r ≡ pick i (Err Short) (pick (eqb (get_or s 0 0) 0) (Ok false) (pick (eqb (get_or s 0 0) 1) (Ok true) (Err Unknown))) → 1 ≤ length s
     by-test true p q = absurd (told Short q)
     by-test false p q = ltb-false (length s) 1 p
 
-pub off-fits : (s : List ℕ) {r : FlagRead} → r ≡ flag_of s → r ≡ flag.Off → 1 ≤ length s
+pub off-fits : (s : List ℕ) {r : Result Bool Refusal} → r ≡ flag_of s → r ≡ (Ok false) → 1 ≤ length s
 off-fits s {r} e q = flag-fits s r e (λ x p. let z : ◌≡◌ {A = ℕ} 0 1 = cc in omega arith)
 
-pub on_fits : (s : List ℕ) {r : FlagRead} → r ≡ flag_of s → r ≡ flag.On → 1 ≤ length s
+pub on_fits : (s : List ℕ) {r : Result Bool Refusal} → r ≡ flag_of s → r ≡ (Ok true) → 1 ≤ length s
 on_fits s {r} e q = flag-fits s r e (λ x p. let z : ◌≡◌ {A = ℕ} 0 1 = cc in omega arith)
 
+pub flag-within : (s : List ℕ) (b : Bool) {r : Result Bool Refusal} → r ≡ flag_of s → r ≡ Ok b → 1 ≤ length s
+flag-within s b {r} e q = flag-fits s r e (λ x p. let z : ◌≡◌ {A = ℕ} 0 1 = cc in omega arith)
+
 -- the flag as a test
-pub flag_off : (s : List ℕ) → flag_of s ≡ flag.Off → eqb (get_or s 0 0) 1 ≡ false
+pub flag_off : (s : List ℕ) → flag_of s ≡ (Ok false) → eqb (get_or s 0 0) 1 ≡ false
 unfolding flag_of
 flag_off s e = by_tests (ltb (length s) 1) (eqb (get_or s 0 0) 0) (eqb (get_or s 0 0) 1) refl e
   where
-    by_tests : (i j k : Bool) → eqb (get_or s 0 0) 0 ≡ j → pick i (flag.Refused Short) (pick j flag.Off (pick k flag.On (flag.Refused Unknown))) ≡ flag.Off
+    by_tests : (i j k : Bool) → eqb (get_or s 0 0) 0 ≡ j → pick i (Err Short) (pick j (Ok false) (pick k (Ok true) (Err Unknown))) ≡ (Ok false)
         → eqb (get_or s 0 0) 1 ≡ false
     by_tests true j k p q = let z : ◌≡◌ {A = ℕ} 0 1 = cc in absurd (omega arith)
     by_tests false true k p q = rw (eqb-true (get_or s 0 0) 0 p)
     by_tests false false true p q = let z : ◌≡◌ {A = ℕ} 0 1 = cc in absurd (omega arith)
     by_tests false false false p q = let z : ◌≡◌ {A = ℕ} 0 1 = cc in absurd (omega arith)
 
-pub flag-on : (s : List ℕ) → flag_of s ≡ flag.On → eqb (get_or s 0 0) 1 ≡ true
+pub flag-on : (s : List ℕ) → flag_of s ≡ (Ok true) → eqb (get_or s 0 0) 1 ≡ true
 unfolding flag_of
 flag-on s e = by_tests (ltb (length s) 1) (eqb (get_or s 0 0) 0) (eqb (get_or s 0 0) 1) e
   where
-    by_tests : (i j k : Bool) → pick i (flag.Refused Short) (pick j flag.Off (pick k flag.On (flag.Refused Unknown))) ≡ flag.On → k ≡ true
+    by_tests : (i j k : Bool) → pick i (Err Short) (pick j (Ok false) (pick k (Ok true) (Err Unknown))) ≡ (Ok true) → k ≡ true
     by_tests true j k q = let z : ◌≡◌ {A = ℕ} 0 1 = cc in absurd (omega arith)
     by_tests false true k q = let z : ◌≡◌ {A = ℕ} 0 1 = cc in absurd (omega arith)
     by_tests false false true q = refl

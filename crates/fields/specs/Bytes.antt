@@ -1,13 +1,7 @@
 -- What is read at the front of some bytes: a 32-bit number, the head of a record, a list's length, a name, a flag; and where it ends.
-use Rattle.std.specs.Prelude.{ℕ, ◌+◌, ◌-◌, ◌*◌, List, Bool, true, false, length, get_or, ltb, eqb}
+use Rattle.std.specs.Prelude.{ℕ, ◌+◌, ◌-◌, ◌*◌, List, Bool, true, false, length, get_or, ltb, eqb, Result, Ok, Err}
 use Rattle.fields.specs.declared.Refusal.{Refusal}
 use Rattle.fields.specs.declared.Refusal.TheVariants.{Short, Unknown}
-use Rattle.fields.specs.declared.Reach.{Reach}
-use Rattle.fields.specs.declared.Reach.TheVariants as reach
-use Rattle.fields.specs.declared.HeadRead.{HeadRead}
-use Rattle.fields.specs.declared.HeadRead.TheVariants as head_read
-use Rattle.fields.specs.declared.FlagRead.{FlagRead}
-use Rattle.fields.specs.declared.FlagRead.TheVariants as flag
 
 -- a record's kind and its payload's length, where the head and the payload fit; or the refusal
 pub data Head : Type 0 where
@@ -51,17 +45,17 @@ name_of s =
     (pick (ltb (length s - 1) (get_or s 0 0)) (Span.Refused Short) (Span.Bytes (get_or s 0 0)))
 
 -- a flag: 0 or 1
-unfoldable pub flag_of : List ℕ → FlagRead
+unfoldable pub flag_of : List ℕ → Result Bool Refusal
 flag_of s =
-    pick (ltb (length s) 1) (flag.Refused Short)
-    (pick (eqb (get_or s 0 0) 0) flag.Off (pick (eqb (get_or s 0 0) 1) flag.On (flag.Refused Unknown)))
+    pick (ltb (length s) 1) (Err Short)
+    (pick (eqb (get_or s 0 0) 0) (Ok false) (pick (eqb (get_or s 0 0) 1) (Ok true) (Err Unknown)))
 
 -- the place after what announces its length in w bytes; or the refusal
-unfoldable pub span_reach : ℕ → Span → Reach
-span_reach w (Span.Bytes n) = reach.To (w + n)
-span_reach w (Span.Refused r) = reach.Refused r
+unfoldable pub span_reach : ℕ → Span → Result ℕ Refusal
+span_reach w (Span.Bytes n) = Ok (w + n)
+span_reach w (Span.Refused r) = Err r
 
 -- a record's kind and the place after it; or the refusal
-unfoldable pub read_of_head : Head → HeadRead
-read_of_head (Head.Piece kind n) = head_read.To kind (5 + n)
-read_of_head (Head.Refused r) = head_read.Refused r
+unfoldable pub read_of_head : Head → Result (ℕ × ℕ) Refusal
+read_of_head (Head.Piece kind n) = Ok (kind, (5 + n))
+read_of_head (Head.Refused r) = Err r

@@ -7,16 +7,16 @@ use native.Mathlib.Numerals.{add-one, sub-one}
 use native.Mathlib.Omega.{arith}
 use lib.ListN.{length, get_or, drop, length-drop, drop_of_length-le}
 use lib.Seq.{drop-drop, drop-cons}
-use borrow.Author.Tests.{eq-eqb, ne_eqb}
 use Rattle.names.specs.Words.{Bytes, each}
 use Rattle.names.specs.Counted.{name_at}
-use Rattle.records.specs.Items.{What, code}
+use Rattle.records.specs.Items.{What}
 use Rattle.story.specs.Story.{words, whats}
 use Rattle.story.specs.Flows.{names_n, counted_in}
 use Rattle.story.proofs.Unfolding.{names-n-zero, names-n-none}
 use Rattle.records.specs.Numbers.{item_in}
 use Rattle.items.specs.Bodies.{items_at}
-use Rattle.filters.specs.Words.{added, added_all, sort_named, label_named}
+use Rattle.filters.specs.declared.Wanted.{Wanted}
+use Rattle.filters.specs.Words.{added, added_all, wants, named}
 
 -- 1. The names after a count byte
 
@@ -28,13 +28,13 @@ counted_none filter s h = rw (names-n-none (get_or s 0 0) (0 + 1) (drop 1 s) (om
 pub record NamesLeft (start s filter : List ℕ) (left at : ℕ) : Type 0 where
   pub rest : added_all start (words (counted_in 0 s)) ≡ added_all filter (words (names_n left at (drop at s)))
 
-pub names-start : (filter s : List ℕ) → NamesLeft filter s filter (get_or s 0 0) 1
+pub names-start : (filter s : List ℕ) {left : ℕ} → left ≡ get_or s 0 0 → NamesLeft filter s filter left 1
 unfolding counted_in
-names-start filter s = record { rest = refl }
+names-start filter s e = record { rest = rw e }
 
 -- the name at the place, and the others
-names-first : (s : List ℕ) (n at : ℕ) → 0 < n → at < length s
-    → words (names_n n at (drop at s)) ≡ name_at s at ∷ words (names_n (n - 1) (at + (1 + get_or s at 0)) (drop (at + (1 + get_or s at 0)) s))
+pub names-first : (s : List ℕ) (n at : ℕ) → 0 < n → at < length s
+    → names_n n at (drop at s) ≡ record { at = at; bytes = name_at s at } ∷ names_n (n - 1) (at + (1 + get_or s at 0)) (drop (at + (1 + get_or s at 0)) s)
 unfolding names_n name_at
 names-first s zero at h k = absurd (omega arith)
 names-first s (suc n) at h k =
@@ -54,33 +54,22 @@ module _ {start s filter : List ℕ} {left at : ℕ} (names : NamesLeft start s 
 
   -- the name at the place is added
   pub names-next : 0 < left → at < length s → {w : Bytes} → w ≡ name_at s at → {after : List ℕ} → after ≡ added filter w
-      → NamesLeft start s after (left - 1) (at + (1 + get_or s at 0))
+      → {next : ℕ} → next ≡ left - 1 → NamesLeft start s after next (at + (1 + get_or s at 0))
   unfolding added_all
-  names-next h k e f = record { rest = names.rest ∙ rw (names-first s left at h k, f, e) }
+  names-next h k e f g = record { rest = names.rest ∙ rw (names-first s left at h k, f, e, g) }
 
--- 2. The names of items of a sort
+-- 2. The names of items that are wanted
 
-module _ (filter : List ℕ) (w : What) {sort found : ℕ} (e : found ≡ code w.kind) where
-  pub item-added : sort ≡ found → {name : Bytes} → name ≡ w.name → {after : List ℕ} → after ≡ added filter name → after ≡ added_all filter (sort_named sort w)
-  unfolding added_all sort_named
-  item-added s n a = a ∙ rw (eq-eqb sort (code w.kind) (s ∙ e), n)
+module _ (filter : List ℕ) (v : Wanted) (w : What) {b : Bool} (e : b ≡ wants v w) where
+  pub item_added : b ≡ true → {name : Bytes} → name ≡ w.name → {after : List ℕ} → after ≡ added filter name → after ≡ added_all filter (named v w)
+  unfolding added_all named
+  item_added t n a = a ∙ rw (← e, t, n)
 
-  pub item-passed : (sort ≡ found → ⊥) → filter ≡ added_all filter (sort_named sort w)
-  unfolding added_all sort_named
-  item-passed s = rw (ne_eqb sort (code w.kind) (λ q. s (q ∙ sym e)))
+  pub item_passed : b ≡ false → filter ≡ added_all filter (named v w)
+  unfolding added_all named
+  item_passed f = rw (← e, f)
 
--- 3. The names of labels
-
-module _ (filter : List ℕ) (w : What) {b : Bool} (e : b ≡ w.labels) where
-  pub label-added : b ≡ true → {name : Bytes} → name ≡ w.name → {after : List ℕ} → after ≡ added filter name → after ≡ added_all filter (label_named w)
-  unfolding added_all label_named
-  label-added t n a = a ∙ rw (← e, t, n)
-
-  pub label-passed : b ≡ false → filter ≡ added_all filter (label_named w)
-  unfolding added_all label_named
-  label-passed f = rw (← e, f)
-
--- 4. Names of items one after the other
+-- 3. Names of items one after the other
 
 added-append : (vs ws : List Bytes) (filter : List ℕ) → added_all filter (vs ++ ws) ≡ added_all (added_all filter vs) ws
 unfolding added_all

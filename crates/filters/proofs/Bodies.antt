@@ -5,7 +5,6 @@ use mathlib.Core.List.{List, [], ◌∷◌, ◌++◌, append-nil}
 use Prim.Native.Nat.{ℕ, zero, suc, ◌+◌, ◌-◌, ◌≤◌, ◌<◌}
 use native.Mathlib.Numerals.{add-one}
 use native.Mathlib.Omega.{arith}
-use lib.Dec.{eqb}
 use lib.ListN.{length, get_or, take, drop, length-append, length-take, length-drop, drop_of_length-le}
 use lib.Seq.{take_all, take_at, drop_at}
 use borrow.Rule.Slice.PartMut.{put_mid}
@@ -20,47 +19,45 @@ use Rattle.items.specs.Bodies.{items_at, kept_in}
 use Rattle.items.specs.Search.{temp_in, gather_among}
 use Rattle.checks.specs.Context.{counted_at, declared_at, here_at}
 use Rattle.checks.specs.declared.ScopeView.{ScopeView}
-use Rattle.filters.specs.Words.{added_all, lacks, sort_named, label_named, Covers}
+use Rattle.filters.specs.declared.Wanted.{Wanted}
+use Rattle.filters.specs.declared.Wanted.TheVariants.{Sort, Label}
+use Rattle.filters.specs.Words.{added_all, lacks, wants, named, Covers}
 use Rattle.filters.specs.Names.{Declared, label_at, split_at, Gathered, passed}
-use Rattle.filters.proofs.Covering.{lacked, covers-none, covers-same, covers-all, covers-or, holds-all}
+use Rattle.filters.proofs.Covering.{lacked, covers_none, covers-same, covers-all, covers-or, holds-all}
 
--- 1. The names of items of a sort
+-- 1. The names of items that are wanted
 
-sort-test : (sort : ℕ) (n : Bytes) (w : What) → one_of n (sort_named sort w) ≡ eqb sort (code w.kind) && same n w.name
-unfolding sort_named
-sort-test sort n w = any-only (same n) (eqb sort (code w.kind)) w.name
+wanted-test : (v : Wanted) (n : Bytes) (w : What) → one_of n (named v w) ≡ wants v w && same n w.name
+unfolding named
+wanted-test v n w = any-only (same n) (wants v w) w.name
 
-sort-tests : (sort : ℕ) (ws : List What) (n : Bytes) → any (λ (w : What). eqb sort (code w.kind) && same n w.name) ws ≡ one_of n (each (sort_named sort) ws)
-sort-tests sort ws n = sym (any-each (same n) (sort_named sort) ws ∙ any_same _ _ (sort-test sort n) ws)
-
-label-tests : (ws : List What) (n : Bytes) → any (λ (w : What). w.labels && same n w.name) ws ≡ one_of n (each label_named ws)
-unfolding label_named
-label-tests ws n = sym (any-each (same n) label_named ws ∙ any_same _ _ (λ (w : What). any-only (same n) w.labels w.name) ws)
+wanted-tests : (v : Wanted) (ws : List What) (n : Bytes) → any (λ (w : What). wants v w && same n w.name) ws ≡ one_of n (each (named v) ws)
+wanted-tests v ws n = sym (any-each (same n) (named v) ws ∙ any_same _ _ (wanted-test v n) ws)
 
 -- 2. What a knot declares, and its labels
 
 module _ (file kept : List ℕ) (from to : ℕ) {items : List ℕ} (run : items ≡ between from to kept) where
   -- the parameters were added, and then the temps
-  pub names-put : (params : ℕ) (start : List ℕ) {named filter : List ℕ} → named ≡ added_all start (words (counted_in 0 (take (length file - params) (drop params file))))
-      → filter ≡ added_all named (each (sort_named (code temp)) (whats (items_at file items))) → Covers filter (declared_at file kept params from to)
-  names-put params start {named} e f =
-      let params-covered : Covers named (counted_at file params)
+  pub names_put : (params : ℕ) (start : List ℕ) {begun filter : List ℕ} → begun ≡ added_all start (words (counted_in 0 (take (length file - params) (drop params file))))
+      → filter ≡ added_all begun (each (named (Sort (code temp))) (whats (items_at file items))) → Covers filter (declared_at file kept params from to)
+  names_put params start {begun} e f =
+      let params-covered : Covers begun (counted_at file params)
       = rw e (covers-same (holds-all _ start) (counted_at file params) (λ n. sym (counted-answer file n params refl))) in
       let temps-covered : Covers _ (temp_in (kept_in file kept from to))
-      = covers-same (holds-all _ named) (temp_in (kept_in file kept from to)) (sort-tests (code temp) (whats (kept_in file kept from to))) in
-      rw (f, run) (covers-or (covers-all (each (sort_named (code temp)) (whats (kept_in file kept from to))) params-covered) temps-covered)
+      = covers-same (holds-all _ begun) (temp_in (kept_in file kept from to)) (wanted-tests (Sort (code temp)) (whats (kept_in file kept from to))) in
+      rw (f, run) (covers-or (covers-all (each (named (Sort (code temp))) (whats (kept_in file kept from to))) params-covered) temps-covered)
 
   -- the labels were added
-  pub labels-put : (start : List ℕ) {filter : List ℕ} → filter ≡ added_all start (each label_named (whats (items_at file items))) → Covers filter (label_at file kept from to)
-  labels-put start f = rw (f, run) (covers-same (holds-all _ start) (label_at file kept from to) (label-tests (whats (kept_in file kept from to))))
+  pub labels_put : (start : List ℕ) {filter : List ℕ} → filter ≡ added_all start (each (named Label) (whats (items_at file items))) → Covers filter (label_at file kept from to)
+  labels_put start f = rw (f, run) (covers-same (holds-all _ start) (label_at file kept from to) (wanted-tests Label (whats (kept_in file kept from to))))
 
 -- a filter without slots lacks nothing
 pub declared-none : {file kept : List ℕ} {params from to end : ℕ} (filter : List ℕ) → length filter ≡ 0 → Declared file kept params from to end filter
 declared-none {to} {end} filter h =
     let split = split_at (length filter) to end in
     record {
-      covers = covers-none (take split filter) (omega (arith, length-take split filter)) _;
-      labels = covers-none (drop split filter) (omega (arith, length-drop split filter)) _;
+      covers = covers_none (take split filter) (omega (arith, length-take split filter)) _;
+      labels = covers_none (drop split filter) (omega (arith, length-drop split filter)) _;
     }
 
 -- the two parts of a filter, one put after the other
@@ -84,14 +81,14 @@ module _ (before names labels : List ℕ) {split : ℕ} (p : length names ≡ sp
 module _ {file kept filter : List ℕ} (v : ScopeView) (declared : Declared file kept v.outer v.body v.stitches v.end filter) (n : Bytes) {r : Bool}
     {split : ℕ} (here : split ≡ split_at (length filter) v.stitches v.end) where
   -- the first part lacks the name, so that it is not forbidden
-  pub not-forbidden : r ≡ lacks (take split filter) n → r ≡ true → false ≡ (here_at file kept v).forbidden n
+  pub not_forbidden : r ≡ lacks (take split filter) n → r ≡ true → false ≡ (here_at file kept v).forbidden n
   unfolding here_at
-  not-forbidden e t = rw (lacked declared.covers (rw here at e) t)
+  not_forbidden e t = rw (lacked declared.covers (rw here at e) t)
 
   -- the second part lacks the name, so that it is no label
-  pub not-label : r ≡ lacks (take (length filter - split) (drop split filter)) n → r ≡ true → false ≡ (here_at file kept v).label n
+  pub not_label : r ≡ lacks (take (length filter - split) (drop split filter)) n → r ≡ true → false ≡ (here_at file kept v).label n
   unfolding here_at
-  not-label e t =
+  not_label e t =
       let all = take_all (length filter - split) (drop split filter) (omega (arith, length-drop split filter)) in
       sym (lacked declared.labels (rw (all, here) at e) t)
 
@@ -103,7 +100,7 @@ gathered-start file kept from to filter = record { covers = record { kept = λ w
 
 -- a filter without slots lacks nothing
 pub gathered_none : {file kept : List ℕ} {from to i : ℕ} (filter : List ℕ) → length filter ≡ 0 → Gathered file kept from to i filter
-gathered_none filter h = record { covers = covers-none filter h _ }
+gathered_none filter h = record { covers = covers_none filter h _ }
 
 -- what stands before the item after this one
 among_next : (p : What → Bool) (file items : List ℕ) (i : ℕ) → i < length items
@@ -119,12 +116,12 @@ module _ {file kept : List ℕ} {from to i : ℕ} {filter : List ℕ} (gathered 
       → Gathered file kept from to (i + 1) after
   unfolding passed
   gathered_next {items} run h e =
-      let names = sort_named (code gather) (item_in file (get_or items i 0)).what in
+      let names = named (Sort (code gather)) (item_in file (get_or items i 0)).what in
       let next : (n : Bytes) → gather_among (take (i + 1) (whats (items_at file items))) n ≡ gather_among (take i (whats (items_at file items))) n || one_of n names
-      = λ n. rw (add-one i, sort-test (code gather) n (item_in file (get_or items i 0)).what) (among_next (λ (v : What). is gather v && same n v.name) file items i h) in
+      = λ n. rw (add-one i, wanted-test (Sort (code gather)) n (item_in file (get_or items i 0)).what) (among_next (λ (v : What). is gather v && same n v.name) file items i h) in
       let both = covers-or (covers-all names (rw (← run) at gathered.covers)) (holds-all names filter) in
       record { covers = rw (e, ← run) (covers-same both (gather_among (take (i + 1) (whats (items_at file items)))) next) }
 
   -- the filter lacks the name, so that no gather has it
-  pub no-gather : (n : Bytes) {r : Bool} → r ≡ lacks filter n → r ≡ true → false ≡ gather_among (take i (whats (kept_in file kept from to))) n
-  no-gather n e t = sym (lacked gathered.covers e t)
+  pub no_gather : (n : Bytes) {r : Bool} → r ≡ lacks filter n → r ≡ true → false ≡ gather_among (take i (whats (kept_in file kept from to))) n
+  no_gather n e t = sym (lacked gathered.covers e t)

@@ -7,7 +7,7 @@ use lib.Dec.{eqb}
 use lib.ListN.{length, get_or, set, length-set}
 use Rattle.names.specs.Words.{Bytes, same}
 use Rattle.names.proofs.Words.{same-eq}
-use Rattle.filters.proofs.Slots.{lacks-none}
+use Rattle.filters.proofs.Slots.{lacks_none}
 use Rattle.tables.specs.Tables.{slot_of}
 use Rattle.filters.specs.Words.{added, added_all, lacks, Covers, Holds}
 
@@ -39,8 +39,8 @@ module _ (filter : List ℕ) (w : Bytes) where
 -- 2. Words that pass a test
 
 -- a filter without slots lacks none
-pub covers-none : (filter : List ℕ) → length filter ≡ 0 → (test : Bytes → Bool) → Covers filter test
-covers-none filter e test = record { kept = λ w h. sym (lacks-none filter w e) }
+pub covers_none : (filter : List ℕ) → length filter ≡ 0 → (test : Bytes → Bool) → Covers filter test
+covers_none filter e test = record { kept = λ w h. sym (lacks_none filter w e) }
 
 module _ {filter : List ℕ} {test : Bytes → Bool} (covers : Covers filter test) where
   -- a word that the filter lacks does not pass

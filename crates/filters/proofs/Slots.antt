@@ -19,22 +19,22 @@ get_d-within (x ∷ l) zero d e h = refl
 get_d-within (x ∷ l) (suc i) d e h = get_d-within l i d e (omega arith)
 
 module _ (filter : List ℕ) (w : Bytes) where
-  pub lacks-none : length filter ≡ 0 → false ≡ lacks filter w
+  pub lacks_none : length filter ≡ 0 → false ≡ lacks filter w
   unfolding lacks
-  lacks-none h = go filter h
+  lacks_none h = go filter h
     where
       go : (l : List ℕ) → length l ≡ 0 → false ≡ eqb (get_or l (slot_of l w) 1) 0
       go [] e = refl
       go (x ∷ l) e = absurd (omega arith)
 
-  pub lacks-at : {hash slot : ℕ} → hash ≡ hash_of w → slot ≡ hash % length filter → slot < length filter → eqb (get_or filter slot 0) 0 ≡ lacks filter w
+  pub lacks_at : {hash slot : ℕ} → hash ≡ hash_of w → slot ≡ hash % length filter → slot < length filter → eqb (get_or filter slot 0) 0 ≡ lacks filter w
   unfolding lacks
-  lacks-at p q h = rw (get_d-within filter _ 0 1 h, q, p)
+  lacks_at p q h = rw (get_d-within filter _ 0 1 h, q, p)
 
   pub added_none : length filter ≡ 0 → filter ≡ added filter w
   unfolding added
   added_none h = sym (set_out filter (slot_of filter w) 1 (omega arith))
 
-  pub added-at : {hash slot : ℕ} → hash ≡ hash_of w → slot ≡ hash % length filter → set filter slot 1 ≡ added filter w
+  pub added_at : {hash slot : ℕ} → hash ≡ hash_of w → slot ≡ hash % length filter → set filter slot 1 ≡ added filter w
   unfolding added
-  added-at p q = rw (q, p)
+  added_at p q = rw (q, p)

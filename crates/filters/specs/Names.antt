@@ -7,7 +7,8 @@ use Rattle.story.specs.Story.{whats}
 use Rattle.items.specs.Bodies.{kept_in}
 use Rattle.items.specs.Search.{label_in, gather_among}
 use Rattle.checks.specs.Context.{declared_at}
-use Rattle.filters.specs.Words.{added_all, sort_named, Covers}
+use Rattle.filters.specs.declared.Wanted.TheVariants.{Sort}
+use Rattle.filters.specs.Words.{added_all, named, Covers}
 
 -- a label of the knot whose own list begins at the one place and whose stitches end at the other
 abbrev pub label_at : List ℕ → List ℕ → ℕ → ℕ → Bytes → Bool
@@ -29,4 +30,4 @@ pub record Gathered (file kept : List ℕ) (from to i : ℕ) (filter : List ℕ)
 
 -- the filter after an item was passed: a gather's name is added
 unfoldable pub passed : List ℕ → What → List ℕ
-passed filter w = added_all filter (sort_named (code gather) w)
+passed filter w = added_all filter (named (Sort (code gather)) w)

@@ -3,6 +3,8 @@ use Rattle.std.specs.Prelude.{ℕ, ◌≡◌, Bool, true, false, List, [], ◌�
 use Rattle.names.specs.Words.{Bytes, only, one_of}
 use Rattle.records.specs.Items.{What, code}
 use Rattle.tables.specs.Tables.{slot_of}
+use Rattle.filters.specs.declared.Wanted.{Wanted}
+use Rattle.filters.specs.declared.Wanted.TheVariants.{Sort, Label}
 
 -- the filter with a word added; one without slots stays
 unfoldable pub added : List ℕ → Bytes → List ℕ
@@ -17,13 +19,14 @@ added_all filter (w ∷ ws) = added_all (added filter w) ws
 unfoldable pub lacks : List ℕ → Bytes → Bool
 lacks filter w = eqb (get_or filter (slot_of filter w) 1) 0
 
--- the name of an item of the sort, and nothing of any other
-unfoldable pub sort_named : ℕ → What → List Bytes
-sort_named sort w = only (eqb sort (code w.kind)) w.name
+-- the item is one of those wanted: one of the sort, or one with a label
+abbrev pub wants : Wanted → What → Bool
+wants (Sort sort) w = eqb sort (code w.kind)
+wants Label w = w.labels
 
--- the name of an item that is a label, and nothing of any other
-unfoldable pub label_named : What → List Bytes
-label_named w = only w.labels w.name
+-- the name of an item that is wanted, and nothing of any other
+unfoldable pub named : Wanted → What → List Bytes
+named v w = only (wants v w) w.name
 
 -- the filter lacks no word that passes the test
 pub record Covers (filter : List ℕ) (test : Bytes → Bool) : Type 0 where

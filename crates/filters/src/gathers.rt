@@ -10,9 +10,10 @@ ghost use Rattle.checks.specs.Judged.{judged_by};
 ghost use Rattle.checks.specs.Context.{what_at};
 ghost use Rattle.filters.specs.Names.{Gathered, passed};
 
+use crate::Wanted;
 use crate::words::{add_item, lacks_word};
+use checks::Slot;
 use checks::structure::is_sort;
-use checks::{Judged, Slot};
 use items::items::item_name;
 use items::named::has_gather_before;
 use items::runs::body_items;
@@ -20,13 +21,15 @@ use records::sorts::GATHER;
 use rules::Rule;
 
 // Adds the name of the item where it is a gather.
+#[tactic(auto, unfolding(crate::specs::Names::passed))]
 pub fn pass_item(file: &[u8], item: u32, filter: &mut [u8])
     ensures { filter.new ≡ passed filter.old (item_in file.now item).what }
 {
-    add_item(filter, GATHER, file, item);
+    add_item(filter, Wanted::Sort(GATHER), file, item);
 }
 
 // The name is the label of a gather before item number i of the body. Not searched for where the filter lacks it.
+#[tactic(auto, using(crate::proofs::Bodies::no_gather))]
 pub fn has_gather_in(
     file: &[u8],
     kept: &[u32],
@@ -40,13 +43,11 @@ pub fn has_gather_in(
     requires gathered { Gathered file.now kept.now from to i filter.now }
     ensures { result ≡ gather_among (take i (whats (kept_in file.now kept.now from to))) name.now }
 {
-    if lacks_word(filter, name) {
-        return false;
-    }
-    has_gather_before(file, body_items(kept, from, to), i, name)
+    !lacks_word(filter, name) && has_gather_before(file, body_items(kept, from, to), i, name)
 }
 
 // The label of an item that is a gather, in the body from..to: rule 10. The filter has the gathers before it.
+#[tactic(auto, using(checks::proofs::Cases::gathers_judged))]
 pub fn check_gather_label(
     file: &[u8],
     kept: &[u32],
@@ -54,7 +55,7 @@ pub fn check_gather_label(
     to: usize,
     slot: Slot,
     filter: &[u8],
-) -> Judged
+) -> Option<Rule>
     requires rising { Rising kept.now }
     requires gathered { Gathered file.now kept.now from to slot.number filter.now }
     ensures { (k : Known) (h : Here) → result ≡ judged_by k h gathers (take slot.number (whats (kept_in file.now kept.now from to))) (what_at file.now slot) }
@@ -62,8 +63,8 @@ pub fn check_gather_label(
     if is_sort(slot.item, GATHER) {
         let name = item_name(file, slot.item);
         if has_gather_in(file, kept, from, to, slot.number, filter, name) {
-            return Judged::Broken(Rule::GatherRepeated);
+            return Some(Rule::GatherRepeated);
         }
     }
-    Judged::Fine
+    None
 }

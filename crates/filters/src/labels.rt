@@ -1,20 +1,17 @@
 // A filter over the labels of a knot, those of its own list and of all its stitches.
 ghost use Rattle.std.specs.Prelude.{◌≡◌, ◌≤◌};
-ghost use Rattle.names.specs.Words.{each};
-ghost use Rattle.story.specs.Story.{whats};
-ghost use Rattle.records.specs.Numbers.{item_in};
-ghost use Rattle.items.specs.Bodies.{items_at, Rising};
-ghost use Rattle.checks.specs.Context.{ScopeReady, here_at};
-ghost use Rattle.filters.specs.Words.{added_all, label_named, Covers};
-ghost use Rattle.filters.specs.Names.{Declared, label_at, split_at};
+ghost use Rattle.items.specs.Bodies.{Rising};
+ghost use Rattle.checks.specs.Context.{here_at};
+ghost use Rattle.filters.specs.Words.{Covers};
+ghost use Rattle.filters.specs.Names.{label_at, split_at};
 
-use crate::words::{add_word, clear_filter, lacks_word};
-use checks::ScopeView;
-use checks::labels::is_label;
-use items::items::{is_labelled, item_name};
+use crate::Wanted;
+use crate::view::DeclaredView;
+use crate::words::{add_items, clear_filter, lacks_word};
 use items::runs::body_items;
 
 // Where the labels begin in a filter of so many bytes: in the middle, or at the front where no stitch asks what the knot declares.
+#[tactic(auto, unfolding(crate::specs::Names::split_at))]
 pub fn split_at(bytes: usize, to: usize, end: usize) -> usize
     ensures { (result ≡ split_at bytes to end) × (result ≤ bytes) }
 {
@@ -24,44 +21,24 @@ pub fn split_at(bytes: usize, to: usize, end: usize) -> usize
     bytes / 2
 }
 
-// Adds the name of the item where it is a label.
-fn add_label(filter: &mut [u8], file: &[u8], item: u32)
-    ensures { filter.new ≡ added_all filter.old (label_named (item_in file.now item).what) }
-{
-    if is_labelled(item) {
-        add_word(filter, item_name(file, item));
-    }
-}
-
-// Adds the labels of the items.
-fn add_labels(filter: &mut [u8], file: &[u8], items: &[u32])
-    ensures { filter.new ≡ added_all filter.old (each label_named (whats (items_at file.now items.now))) }
-{
-    let mut i = 0;
-    while i < items.len() {
-        add_label(filter, file, items[i]);
-        i += 1;
-    }
-}
-
 // Empties the filter, and adds the labels of the knot: its own list and its stitches are one run of items.
+#[tactic(auto, using(crate::proofs::Bodies::labels_put))]
 pub fn put_labels(file: &[u8], kept: &[u32], from: usize, end: usize, filter: &mut [u8])
     requires { Rising kept.now }
     ensures { Covers filter.new (label_at file.now kept.now from end) }
 {
     clear_filter(filter);
-    add_labels(filter, file, body_items(kept, from, end));
+    add_items(filter, Wanted::Label, file, body_items(kept, from, end));
 }
 
-// The name is a label that a temp may not have. Not searched for where the filter's second part lacks it.
-pub fn is_label_in(file: &[u8], scope: ScopeView, kept: &[u32], filter: &[u8], name: &[u8]) -> bool
-    requires scope_ready { ScopeReady file.now kept.now scope }
-    requires declared { Declared file.now kept.now scope.outer scope.body scope.stitches scope.end filter.now }
-    ensures { result ≡ (here_at file.now kept.now scope).label name.now }
-{
-    let split = split_at(filter.len(), scope.stitches, scope.end);
-    if lacks_word(&filter[split..], name) {
-        return false;
+impl DeclaredView<'_, '_> {
+    // The name is a label that a temp may not have. Not searched for where the filter's second part lacks it.
+    #[tactic(auto, using(crate::proofs::Bodies::not_label))]
+    pub fn is_label_in(&self, name: &[u8]) -> bool
+        ensures { result ≡ (here_at self.now.body.file.now self.now.body.kept.now self.now.body.scope).label name.now }
+    {
+        let scope = self.body.scope;
+        let split = split_at(self.filter.len(), scope.stitches, scope.end);
+        !lacks_word(&self.filter[split..], name) && self.body.is_label(name)
     }
-    is_label(file, scope, kept, name)
 }

@@ -5,4 +5,12 @@ pub mod declared;
 pub mod gathers;
 pub mod labels;
 pub mod temps;
+pub mod view;
 pub mod words;
+
+// The items whose names are added to a filter: those of one sort, or those with a label.
+#[derive(Clone, Copy)]
+pub enum Wanted {
+    Sort(u8),
+    Label,
+}

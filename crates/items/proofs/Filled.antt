@@ -1,4 +1,6 @@
 -- After reading, the first numbers in the buffer are those kept, where it is long enough for the file. Assumes nothing.
+use Rattle.std.specs.Prelude.{Result, Ok}
+use Rattle.fields.specs.declared.Refusal.{Refusal}
 use mathlib.Core.Path.{◌≡◌, refl, ◌∙◌}
 use mathlib.Core.List.{List}
 use Prim.Native.Nat.{ℕ, ◌+◌, ◌*◌, ◌≤◌}
@@ -9,9 +11,6 @@ use Rattle.records.specs.Numbers.{kept_numbers}
 use Rattle.records.specs.Buffers.{fill}
 use Rattle.records.proofs.Keeping.{fill-length}
 use Rattle.story.specs.declared.Sections.{Sections}
-use Rattle.story.specs.declared.Opened.TheVariants as opened
-use Rattle.story.specs.declared.StoryRead.{StoryRead}
-use Rattle.story.specs.declared.StoryRead.TheVariants as read
 use Rattle.story.specs.Story.{story_items}
 use Rattle.story.specs.File.{read_of, story_in}
 use Rattle.story.specs.Results.{ReadAs}
@@ -25,12 +24,12 @@ filled-front : (xs out : List ℕ) → length xs ≤ length out → take (length
 unfolding fill
 filled-front xs out h = take-take (length xs) (length out) _ h ∙ take-append_seam xs (drop (0 + length xs) out)
 
-module _ {file before after : List ℕ} {r : StoryRead} (promise : ReadAs file before r after) {c : Sections} {n all : ℕ} (q : r ≡ read.At c n all) where
+module _ {file before after : List ℕ} {r : Result (Sections × ℕ × ℕ) Refusal} (promise : ReadAs file before r after) {c : Sections} {n all : ℕ} (q : r ≡ Ok (c, n, all)) where
   told : ReadWell file before c n all after
   told = read-well file before after promise q
 
   -- the sections that were read
-  pub read-sections : read_of file ≡ opened.At c
+  pub read-sections : read_of file ≡ Ok c
   read-sections = told.opens
 
   -- a file of at most 1,048,576 bytes has a buffer of a sixth of its length

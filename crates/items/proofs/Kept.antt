@@ -1,4 +1,5 @@
 -- The kept numbers from one place to another are those of what stands there: of the root, of a flow's own list and its stitches, of a stitch. Assumes nothing.
+use Rattle.std.specs.Prelude.{Option, Some}
 use mathlib.Core.Path.{◌≡◌, refl, sym, ap, ◌∙◌}
 use mathlib.Core.Bool.{Bool, true, false, ◌||◌}
 use mathlib.Core.List.Memᴰ
@@ -26,11 +27,7 @@ use Rattle.story.proofs.BodyRuns.{kept_append, Lies, lies-wider, lies-append, be
 use Rattle.story.proofs.Opening.{sections-well}
 use Rattle.story.proofs.Files.{places-rise, root-is-run, flows-are-run}
 use Rattle.searches.specs.declared.views.StitchView.{StitchView}
-use Rattle.searches.specs.declared.views.StitchViewRead.{StitchViewRead}
-use Rattle.searches.specs.declared.views.StitchViewRead.TheVariants as stitch-read
 use Rattle.searches.specs.declared.views.FlowView.{FlowView}
-use Rattle.searches.specs.declared.views.FlowViewRead.{FlowViewRead}
-use Rattle.searches.specs.declared.views.FlowViewRead.TheVariants as flow-read
 use Rattle.searches.specs.Views.{stitch_view_of, flow_view_of, viewed_stitch, viewed_flow}
 use Rattle.searches.proofs.Viewed.{StitchLaid, stitch-viewed, stitch-laid, FlowLaid, flow-viewed, flow-laid}
 use Rattle.searches.proofs.Readable.{stitch-readable, GoodFlow, flow-readable}
@@ -111,7 +108,7 @@ module _ {file : List ℕ} {c : Sections} {kept : List ℕ} (h : Kept file c kep
 -- 4. Flows
 
 module _ (file kept : List ℕ) (at end : ℕ) (ordered : at ≤ end) (within : end ≤ length file) (short : length file ≤ 1048576)
-    (good : ends (flows (part at end file)) ≡ well) (h : FlowsKept file kept at end) (v : FlowView) {r : FlowViewRead} (told : r ≡ flow_view_of file at end) (given : r ≡ flow-read.View v) where
+    (good : ends (flows (part at end file)) ≡ well) (h : FlowsKept file kept at end) (v : FlowView) {r : Option FlowView} (told : r ≡ flow_view_of file at end) (given : r ≡ Some v) where
   laid : FlowLaid at end v
   laid = flow-laid file at end v told given
 
@@ -203,7 +200,7 @@ module _ (file kept : List ℕ) (at end : ℕ) (ordered : at ≤ end) (within : 
 -- 5. Stitches
 
 module _ (file kept : List ℕ) (at end : ℕ) (ordered : at ≤ end) (within : end ≤ length file) (short : length file ≤ 1048576)
-    (good : ends (stitches (part at end file)) ≡ well) (h : StitchesKept file kept at end) (w : StitchView) {r : StitchViewRead} (told : r ≡ stitch_view_of file at end) (given : r ≡ stitch-read.View w) where
+    (good : ends (stitches (part at end file)) ≡ well) (h : StitchesKept file kept at end) (w : StitchView) {r : Option StitchView} (told : r ≡ stitch_view_of file at end) (given : r ≡ Some w) where
   set : StitchLaid at end w
   set = stitch-laid file at end w told given
 

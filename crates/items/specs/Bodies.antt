@@ -1,9 +1,8 @@
 -- Inner contract. The items of a body, a flow and a stitch, by the numbers that were kept of them. Assumes nothing.
-use Rattle.std.specs.Prelude.{ℕ, ◌≤◌, ◌≡◌, List, map, length, drop}
+use Rattle.std.specs.Prelude.{ℕ, ◌≤◌, ◌≡◌, List, map, length, drop, Ok}
 use Rattle.names.specs.Words.{Sorted, each}
 use Rattle.names.specs.Counted.{name_at}
 use Rattle.story.specs.declared.Sections.{Sections}
-use Rattle.story.specs.declared.Opened.TheVariants as opened
 use Rattle.records.specs.Items.{Item, items_in}
 use Rattle.story.specs.Story.{Stitch, Flow, Story, stitch_items, flow_items, story_items}
 use Rattle.story.specs.Plain.{stitch_without_plain, without_plain}
@@ -70,7 +69,7 @@ kept_flow file kept v = record {
 
 -- the numbers are those kept of a readable file
 pub record Kept (file : List ℕ) (c : Sections) (kept : List ℕ) : Type 0 where
-  pub read : read_of file ≡ opened.At c
+  pub read : read_of file ≡ Ok c
   pub numbers : kept ≡ kept_numbers (story_items (story_in c file))
 
 -- of the numbers, those from the one place to the other are those kept of the nodes there

@@ -3,7 +3,7 @@ ghost use Rattle.std.specs.Prelude.{◌≡◌, List, ℕ, ◌<◌, drop};
 ghost use Rattle.records.specs.Items.{Kind, code, name_start, nameless};
 ghost use Rattle.records.specs.Numbers.{place_in, payload_at, item_in};
 
-use fields::{HeadRead, read_head};
+use fields::read_head;
 use names::name_at;
 use records::sorts::{CHOICE, GATHER, PLAIN, TEMP, is_flagged};
 
@@ -61,8 +61,7 @@ fn payload_at<'a>(file: &'a [u8], place: usize) -> &'a [u8]
     ensures { result.now ≡ payload_at file.now place }
 {
     let s = tail(file, place);
-    let head = read_head(s);
-    let HeadRead::To(_, e) = head else {
+    let Ok((_kind, e)) = read_head(s) else {
         return &s[s.len()..];
     };
     &s[5..e]

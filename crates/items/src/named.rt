@@ -32,22 +32,17 @@ pub fn is_of_sort(sought: Sought, item: u32) -> bool
 fn bears_name(sought: Sought, file: &[u8], item: u32, name: &[u8]) -> bool
     ensures { result ≡ bears sought name.now (item_in file.now item).what }
 {
-    if is_of_sort(sought, item) {
-        return same_name(name, item_name(file, item));
-    }
-    false
+    is_of_sort(sought, item) && same_name(name, item_name(file, item))
 }
 
 // Some of the items is of the sought sort and bears the name.
 pub fn found_in(sought: Sought, file: &[u8], items: &[u32], name: &[u8]) -> bool
     ensures { result ≡ found_among sought (whats (items_at file.now items.now)) name.now }
 {
-    let mut i = 0;
-    while i < items.len() {
-        if bears_name(sought, file, items[i], name) {
+    for &item in items {
+        if bears_name(sought, file, item, name) {
             return true;
         }
-        i += 1;
     }
     false
 }

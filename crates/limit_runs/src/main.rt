@@ -1,35 +1,162 @@
 // Builds stories at the limits in a buffer, checks each, and writes its line and its number of entries.
 #![tactic(auto)]
 
+use builder::{Builder, Starts};
 use lines::check_line;
 use std::io;
-use validator::Answer;
+use validator::Verdict;
+
+// The kind bytes of an output, a divert, a gather label and a call.
+const OUTPUT: u8 = 2;
+
+const DIVERT: u8 = 3;
+
+const GATHER: u8 = 15;
+
+const CALL: u8 = 16;
 
 // The name of the knot, and one that no story here has.
-const KNOT: u8 = 107;
+const KNOT: &[u8] = b"k";
 
-const ELSEWHERE: u8 = 120;
+const ELSEWHERE: &[u8] = b"x";
 
 // The bytes that the message buffer wants, and the numbers that the index of a file of 420,000 bytes wants.
 const MESSAGE: usize = 640;
 
 const NUMBERS: usize = 1259940;
 
-// Writes a number of entries.
-fn print_count(rt: &impl Print, n: usize) -> io::Result<()> {
-    rt.write_all(b"entries ")?;
-    rt.print(n as u64)?;
-    rt.write_all(b"\n")
+// What a story is made of.
+#[derive(Clone, Copy)]
+enum Story {
+    // Empty globals, and a knot with a stitch; the root, the knot and the stitch have so many diverts to the knot, the stitch a last one too.
+    Diverts {
+        globals: usize,
+        many: usize,
+        last: &'static [u8],
+    },
+
+    // So many calls in the root: as many kept records as its length allows.
+    Calls(usize),
+
+    // An output in the root that holds so many Negates around a constant.
+    Nested(u8),
+
+    // A gather label twice in the root, and a wrong divert in the knot.
+    Gathers,
+
+    // So many empty globals alone. The index for 1,048,576 bytes is larger than a stack of 8 MiB: the file is read, and refused by 7.
+    Globals(usize),
 }
 
-// Writes the number of entries of an answer; a refusal has none.
-fn print_entries(rt: &impl Print, answer: Answer) -> io::Result<()> {
-    match answer {
-        Answer::Accepted(n) => print_count(rt, n),
-        Answer::Breached(b) => print_count(rt, b.entries),
-        Answer::Unreadable(_) => Ok(()),
-        Answer::ShortIndex => Ok(()),
-        Answer::ShortMessage => Ok(()),
+// A story, and how many numbers of the index and bytes of the message buffer are lent to its check.
+#[derive(Clone, Copy)]
+struct Case {
+    story: Story,
+    numbers: usize,
+    bytes: usize,
+}
+
+// A case with all that its check wants.
+fn whole(story: Story) -> Case {
+    Case {
+        story,
+        numbers: NUMBERS,
+        bytes: MESSAGE,
+    }
+}
+
+// A case without an index.
+fn without_index(story: Story) -> Case {
+    Case {
+        story,
+        numbers: 0,
+        bytes: MESSAGE,
+    }
+}
+
+// A story with diverts.
+fn diverts(globals: usize, many: usize, last: &'static [u8]) -> Story {
+    Story::Diverts {
+        globals,
+        many,
+        last,
+    }
+}
+
+// Puts so many diverts to the knot.
+fn put_diverts(file: &mut Builder, many: usize) {
+    for _ in 0..many {
+        file.named(DIVERT, KNOT);
+    }
+}
+
+// Puts a name, no parameters, no divert parameters, and a list of so many diverts to the knot and a last one.
+fn put_named_list(file: &mut Builder, name: &[u8], many: usize, last: &[u8]) {
+    file.name(name);
+    file.zeros(2);
+    file.sized(|file| {
+        put_diverts(file, many);
+        file.named(DIVERT, last);
+    });
+}
+
+// Puts the knot, with one stitch; both have so many diverts to the knot and a last one.
+fn put_knot(file: &mut Builder, many: usize, last: &[u8], stitch_last: &[u8]) {
+    file.sized(|file| {
+        file.byte(0);
+        put_named_list(file, KNOT, many, last);
+        file.sized(|file| put_named_list(file, b"s", many, stitch_last));
+    });
+}
+
+// Puts the globals and the root of a story. The places where these and the flows start.
+fn put_front(file: &mut Builder, story: Story) -> Starts {
+    match story {
+        Story::Diverts { globals, .. } | Story::Globals(globals) => file.zeros(globals),
+        Story::Calls(_) | Story::Nested(_) | Story::Gathers => {}
+    }
+    let root = file.end();
+    match story {
+        Story::Diverts { many, .. } => put_diverts(file, many),
+        Story::Calls(many) => {
+            for _ in 0..many {
+                file.named(CALL, b"");
+            }
+        }
+        Story::Nested(negations) => {
+            file.head(OUTPUT, 5 * negations as usize + 5);
+            file.negations(negations as usize);
+        }
+        Story::Gathers => {
+            file.named(GATHER, b"a");
+            file.named(GATHER, b"a");
+        }
+        Story::Globals(_) => {}
+    }
+    Starts {
+        globals: 0,
+        externals: root,
+        root,
+        flows: file.end(),
+    }
+}
+
+// Puts a story.
+fn put_story(file: &mut Builder, story: Story) {
+    let starts = put_front(file, story);
+    match story {
+        Story::Diverts { many, last, .. } => put_knot(file, many, KNOT, last),
+        Story::Gathers => put_knot(file, 0, ELSEWHERE, KNOT),
+        Story::Calls(_) | Story::Nested(_) | Story::Globals(_) => {}
+    }
+    file.trailer(starts);
+}
+
+// The number of entries of a verdict.
+fn entries_of(verdict: Verdict) -> usize {
+    match verdict {
+        Verdict::Accepted(n) => n,
+        Verdict::Breached(b) => b.entries,
     }
 }
 
@@ -39,345 +166,83 @@ fn print_file(
     file: &[u8],
     index: &mut [u32],
     message: &mut [u8],
-    out: &mut [u8],
 ) -> io::Result<()> {
-    let checked = check_line(file, index, message, out);
-    let answer = checked.answer;
-    let end = checked.length;
-    rt.write_all(&out[..end])?;
-    print_entries(rt, answer)
+    let mut out = [0u8; 700];
+    let checked = check_line(file, index, message, out.as_mut_slice());
+    rt.write_all(&out[..checked.length])?;
+    match checked.answer {
+        Ok(verdict) => println!(rt; "entries {}", entries_of(verdict)),
+        Err(_) => Ok(()),
+    }
 }
 
-// Checks so many bytes of a buffer with so many of the index and of the message buffer, where there are so many.
-fn print_lent(
-    rt: &impl Print,
-    space: &[u8],
-    size: usize,
-    index: &mut [u32],
-    numbers: usize,
-    message: &mut [u8],
-    bytes: usize,
-    out: &mut [u8],
-) -> io::Result<()> {
-    if space.len() < size {
+// Builds the story of a case in the lent bytes, checks it with what the case lends, and writes its line.
+fn print_case(rt: &impl Print, case: Case, space: &mut [u8], index: &mut [u32]) -> io::Result<()> {
+    let mut message = [0u8; MESSAGE];
+    let mut file = Builder::new(space);
+    put_story(&mut file, case.story);
+    let Some(lent) = index.get_mut(..case.numbers) else {
         return Ok(());
-    }
-    if index.len() < numbers {
+    };
+    let Some(bytes) = message.get_mut(..case.bytes) else {
         return Ok(());
-    }
-    if message.len() < bytes {
-        return Ok(());
-    }
-    print_file(
-        rt,
-        &space[0..size],
-        &mut index[0..numbers],
-        &mut message[0..bytes],
-        out,
-    )
+    };
+    print_file(rt, file.file(), lent, bytes)
 }
 
-// Puts a byte at a place, where it is there, and answers the place after it.
-fn put_byte(space: &mut [u8], at: usize, byte: u8) -> usize {
-    if at < space.len() {
-        space[at] = byte;
-        return at + 1;
-    }
-    at
-}
-
-// Puts a number below 2^32 into four bytes, little-endian, and answers the place after them.
-fn put_number(space: &mut [u8], at: usize, n: usize) -> usize {
-    let second = put_byte(space, at, (n % 256) as u8);
-    let third = put_byte(space, second, (n / 256 % 256) as u8);
-    let fourth = put_byte(space, third, (n / 65536 % 256) as u8);
-    put_byte(space, fourth, (n / 16777216 % 256) as u8)
-}
-
-// Puts at `start` how many bytes stand behind its four, up to `end`.
-fn put_length(space: &mut [u8], start: usize, end: usize) {
-    if start < end {
-        if 4 <= end - start {
-            put_number(space, start, end - start - 4);
-        }
-    }
-}
-
-// Puts so many zeros, and answers the place after them. Each is an empty name.
-fn put_zeros(space: &mut [u8], start: usize, n: usize) -> usize {
-    let mut at = start;
-    let mut left = n;
-    while 0 < left {
-        at = put_byte(space, at, 0);
-        left -= 1;
-    }
-    at
-}
-
-// Puts a name of one letter.
-fn put_name(space: &mut [u8], at: usize, letter: u8) -> usize {
-    let next = put_byte(space, at, 1);
-    put_byte(space, next, letter)
-}
-
-// Puts the kind and the payload length of a record.
-fn put_head(space: &mut [u8], at: usize, kind: u8, length: usize) -> usize {
-    let next = put_byte(space, at, kind);
-    put_number(space, next, length)
-}
-
-// Puts a record with a name of one letter: a divert, of kind 3, or a gather label, of kind 15.
-fn put_record(space: &mut [u8], at: usize, kind: u8, letter: u8) -> usize {
-    let next = put_head(space, at, kind, 2);
-    put_name(space, next, letter)
-}
-
-// Puts so many diverts to the knot.
-fn put_diverts(space: &mut [u8], start: usize, n: usize) -> usize {
-    let mut at = start;
-    let mut left = n;
-    while 0 < left {
-        at = put_record(space, at, 3, KNOT);
-        left -= 1;
-    }
-    at
-}
-
-// Puts so many calls of the empty name: six bytes each, the shortest records that are kept.
-fn put_calls(space: &mut [u8], start: usize, n: usize) -> usize {
-    let mut at = start;
-    let mut left = n;
-    while 0 < left {
-        let next = put_head(space, at, 16, 1);
-        at = put_byte(space, next, 0);
-        left -= 1;
-    }
-    at
-}
-
-// Puts records one inside the other, of so many bytes below the outermost: an output, negations and a constant.
-fn put_nested(space: &mut [u8], start: usize, below: usize) -> usize {
-    let mut at = start;
-    let mut kind = 2;
-    let mut left = below;
-    while 5 <= left {
-        at = put_head(space, at, kind, left);
-        kind = 3;
-        left -= 5;
-    }
-    put_head(space, at, 0, 0)
-}
-
-// Puts a list: so many diverts to the knot, and a last one.
-fn put_list(space: &mut [u8], at: usize, n: usize, last: u8) -> usize {
-    let first = put_number(space, at, 0);
-    let after = put_diverts(space, first, n);
-    let end = put_record(space, after, 3, last);
-    put_length(space, at, end);
-    end
-}
-
-// Puts what a flow and a stitch have in common: a name, no parameters, no divert parameters, a list.
-fn put_named_list(space: &mut [u8], at: usize, name: u8, n: usize, last: u8) -> usize {
-    let params = put_name(space, at, name);
-    let list = put_zeros(space, params, 2);
-    put_list(space, list, n, last)
-}
-
-// Puts a stitch of the knot.
-fn put_stitch(space: &mut [u8], at: usize, n: usize, last: u8) -> usize {
-    let name = put_number(space, at, 0);
-    let end = put_named_list(space, name, 115, n, last);
-    put_length(space, at, end);
-    end
-}
-
-// Puts the knot, with one stitch; both have so many diverts to the knot and a last one.
-fn put_knot(space: &mut [u8], at: usize, n: usize, last: u8, stitch_last: u8) -> usize {
-    let flag = put_number(space, at, 0);
-    let name = put_byte(space, flag, 0);
-    let stitch = put_named_list(space, name, KNOT, n, last);
-    let end = put_stitch(space, stitch, n, stitch_last);
-    put_length(space, at, end);
-    end
-}
-
-// Puts the trailer of a file without externals, and answers the file's length.
-fn put_trailer(space: &mut [u8], at: usize, root: usize, flows: usize) -> usize {
-    let second = put_number(space, at, 0);
-    let third = put_number(space, second, root);
-    let fourth = put_number(space, third, root);
-    let mark = put_number(space, fourth, flows);
-    put_number(space, mark, 84809)
-}
-
-// Puts a story: empty globals, so many diverts in the root, the knot and the stitch, a last one in the stitch. Answers its length.
-fn put_story(space: &mut [u8], globals: usize, n: usize, last: u8) -> usize {
-    let root = put_zeros(space, 0, globals);
-    let flows = put_diverts(space, root, n);
-    let end = put_knot(space, flows, n, KNOT, last);
-    put_trailer(space, end, root, flows)
-}
-
-// Puts a story of empty globals alone. The index for 1,048,576 bytes is larger than a stack of 8 MiB: the file is read, and refused by 7.
-fn put_globals(space: &mut [u8], n: usize) -> usize {
-    let end = put_zeros(space, 0, n);
-    put_trailer(space, end, end, end)
-}
-
-// Puts a story whose root has records one inside the other.
-fn put_deep(space: &mut [u8], below: usize) -> usize {
-    let end = put_nested(space, 0, below);
-    put_trailer(space, end, 0, end)
-}
-
-// Puts a story whose root has a gather label twice, and whose knot has a wrong divert.
-fn put_gathers(space: &mut [u8]) -> usize {
-    let second = put_record(space, 0, 15, 97);
-    let flows = put_record(space, second, 15, 97);
-    let end = put_knot(space, flows, 0, ELSEWHERE, KNOT);
-    put_trailer(space, end, 0, flows)
-}
-
-// Puts a story whose root has nothing but calls: as many kept records as its length allows.
-fn put_root(space: &mut [u8], n: usize) -> usize {
-    let end = put_calls(space, 0, n);
-    put_trailer(space, end, 0, end)
-}
-
-// Puts the story of a case: 4,096 bytes and one more, 65,536 bytes and one more; roots of calls for each set of buffers; depths 64 and 65;
-// gathers; 1,048,576 bytes and one more; 420,000 bytes.
-fn put_case(case: u8, space: &mut [u8]) -> usize {
-    match case {
-        0 => put_story(space, 47, 190, ELSEWHERE),
-        1 => put_story(space, 48, 190, ELSEWHERE),
-        2 => put_story(space, 20, 3117, ELSEWHERE),
-        3 => put_story(space, 21, 3117, ELSEWHERE),
-        4 => put_root(space, 679),
-        5 => put_root(space, 10919),
-        6 => put_deep(space, 315),
-        7 => put_deep(space, 320),
-        8 => put_gathers(space),
-        9 => put_globals(space, 1048556),
-        10 => put_globals(space, 1048557),
-        11 => put_root(space, 174759),
-        12..=14 => put_story(space, 151, 19990, KNOT),
-        15..=255 => put_story(space, 151, 19990, ELSEWHERE),
-    }
-}
-
-// The numbers of the index that a case lends: none beside the longest files, and one short in case 13.
-fn numbers_of(case: u8) -> usize {
-    match case {
-        0..=8 => NUMBERS,
-        9..=11 => 0,
-        12 => NUMBERS,
-        13 => NUMBERS - 1,
-        14..=255 => NUMBERS,
-    }
-}
-
-// The bytes of the message buffer that a case lends: one short in case 14.
-fn bytes_of(case: u8) -> usize {
-    if case == 14 {
-        return MESSAGE - 1;
-    }
-    MESSAGE
-}
-
-// Builds the story of a case, checks it, and writes its line.
-fn print_case(
-    rt: &impl Print,
-    case: u8,
-    space: &mut [u8],
-    index: &mut [u32],
-    message: &mut [u8],
-    out: &mut [u8],
-) -> io::Result<()> {
-    let length = put_case(case, space);
-    print_lent(
-        rt,
-        space,
-        length,
-        index,
-        numbers_of(case),
-        message,
-        bytes_of(case),
-        out,
-    )
-}
-
-// Writes the lines of the cases from `first` to before `end`.
-fn print_cases(
-    rt: &impl Print,
-    first: u8,
-    end: u8,
-    space: &mut [u8],
-    index: &mut [u32],
-    message: &mut [u8],
-    out: &mut [u8],
-) -> io::Result<()> {
-    let mut case = first;
-    while case < end {
-        print_case(rt, case, space, index, message, out)?;
-        case += 1;
+// Writes the lines of cases whose files have at most 420,000 bytes.
+fn run_stories(rt: &impl Print, cases: &[Case]) -> io::Result<()> {
+    let mut space = [0u8; 420000];
+    let mut index = [0u32; NUMBERS];
+    for case in cases {
+        print_case(rt, *case, space.as_mut_slice(), index.as_mut_slice())?;
     }
     Ok(())
 }
 
-// Lends two arrays on.
-fn lend(
-    rt: &impl Print,
-    first: u8,
-    end: u8,
-    space: &mut [u8; 420000],
-    index: &mut [u32; NUMBERS],
-    message: &mut [u8],
-    out: &mut [u8],
-) -> io::Result<()> {
-    print_cases(rt, first, end, space, index, message, out)
-}
-
-// Lends the buffers for files of at most 420,000 bytes.
-fn run_stories(rt: &impl Print, first: u8, end: u8) -> io::Result<()> {
-    let mut space = [0u8; 420000];
-    let mut index = [0u32; NUMBERS];
-    let mut message = [0u8; MESSAGE];
-    let mut out = [0u8; 700];
-    lend(
-        rt,
-        first,
-        end,
-        &mut space,
-        &mut index,
-        &mut message,
-        &mut out,
-    )
-}
-
-// Lends an array on as its bytes.
-fn lend_long(
-    rt: &impl Print,
-    space: &mut [u8; 1048577],
-    index: &mut [u32],
-    message: &mut [u8],
-    out: &mut [u8],
-) -> io::Result<()> {
-    print_cases(rt, 9, 12, space, index, message, out)
-}
-
-// Lends the buffers for the longest files.
-fn run_long(rt: &impl Print) -> io::Result<()> {
+// Writes the lines of cases with the longest files, whose checks are lent no index.
+fn run_long(rt: &impl Print, cases: &[Case]) -> io::Result<()> {
     let mut space = [0u8; 1048577];
-    let mut index = [0u32; 1];
-    let mut message = [0u8; MESSAGE];
-    let mut out = [0u8; 700];
-    lend_long(rt, &mut space, &mut index, &mut message, &mut out)
+    for case in cases {
+        print_case(rt, *case, space.as_mut_slice(), &mut [])?;
+    }
+    Ok(())
 }
 
-// Writes the lines of all cases. The longest files and the longest index are not on the stack at one time.
+// Writes the lines of all cases: 4,096 bytes and one more, 65,536 bytes and one more; roots of calls for two sets of buffers; depths 64 and 65; gathers;
+// 1,048,576 bytes and one more, and a root of calls as long; 420,000 bytes, also with an index and with a message buffer one short.
+// The longest files and the longest index are not on the stack at one time.
 fn main(rt: HostRuntime) -> io::Result<()> {
-    run_stories(&rt, 0, 9)?;
-    run_long(&rt)?;
-    run_stories(&rt, 12, 16)
+    let short = [
+        whole(diverts(47, 190, ELSEWHERE)),
+        whole(diverts(48, 190, ELSEWHERE)),
+        whole(diverts(20, 3117, ELSEWHERE)),
+        whole(diverts(21, 3117, ELSEWHERE)),
+        whole(Story::Calls(679)),
+        whole(Story::Calls(10919)),
+        whole(Story::Nested(62)),
+        whole(Story::Nested(63)),
+        whole(Story::Gathers),
+    ];
+    let long = [
+        without_index(Story::Globals(1048556)),
+        without_index(Story::Globals(1048557)),
+        without_index(Story::Calls(174759)),
+    ];
+    let large = diverts(151, 19990, KNOT);
+    let lent_less = [
+        whole(large),
+        Case {
+            numbers: NUMBERS - 1,
+            ..whole(large)
+        },
+        Case {
+            bytes: MESSAGE - 1,
+            ..whole(large)
+        },
+        whole(diverts(151, 19990, ELSEWHERE)),
+    ];
+    run_stories(&rt, &short)?;
+    run_long(&rt, &long)?;
+    run_stories(&rt, &lent_less)
 }

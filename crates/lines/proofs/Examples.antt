@@ -1,4 +1,7 @@
 -- Lines worked out: a place of seven digits, a long input, and P1 to P10 from the bytes. Assumes nothing.
+use Rattle.std.specs.Prelude.{Result, Ok, Err}
+use Rattle.fields.specs.declared.Refusal.{Refusal}
+use Rattle.story.specs.declared.Sections.{Sections}
 use mathlib.Core.Path.{◌≡◌, refl, ◌∙◌, ap}
 use mathlib.Core.Bool.{Bool, true, ◌&&◌}
 use mathlib.Core.List.{List, [], ◌∷◌, ◌++◌, map}
@@ -11,8 +14,6 @@ use borrow.Author.Tests.{le-ltb}
 use Rattle.names.specs.Words.{Bytes}
 use Rattle.names.specs.Text.{ascii}
 use Rattle.names.proofs.Bools.{and_left, and_right}
-use Rattle.story.specs.declared.Opened.{Opened}
-use Rattle.story.specs.declared.Opened.TheVariants as opened
 use Rattle.story.specs.File.{read_of}
 use Rattle.validator.specs.Check.{report_at, report_of}
 use Rattle.validator.proofs.Examples.{digit, hex, Row, row, reported, table, examples}
@@ -51,10 +52,10 @@ taken [] = true
 taken (r ∷ rs) = (short r && (long r && full r)) && taken rs
 
 -- an index that is long enough may be longer
-longer : (o : Opened) (file : List ℕ) (i j : ℕ) → 3 * (length file - 20) ≤ i → 3 * (length file - 20) ≤ j → report_at o file i 640 ≡ report_at o file j 640
+longer : (o : Result Sections Refusal) (file : List ℕ) (i j : ℕ) → 3 * (length file - 20) ≤ i → 3 * (length file - 20) ≤ j → report_at o file i 640 ≡ report_at o file j 640
 unfolding report_at
-longer (opened.Refused r) file i j h k = refl
-longer (opened.At c) file i j h k = rw (le-ltb i (3 * (length file - 20)) h, le-ltb j (3 * (length file - 20)) k)
+longer (Err r) file i j h k = refl
+longer (Ok c) file i j h k = rw (le-ltb i (3 * (length file - 20)) h, le-ltb j (3 * (length file - 20)) k)
 
 row_line : (r : Row) → T (short r && (long r && full r)) → input_line r.file ≡ report_line (reported r)
 unfolding reported report_of

@@ -1,4 +1,7 @@
 -- The line of a check's answer is that of its report, and its text lies within the message buffer. Assumes nothing.
+use Rattle.std.specs.Prelude.{Result, Ok, Err}
+use Rattle.fields.specs.declared.Refusal.{Refusal}
+use Rattle.story.specs.declared.Sections.{Sections}
 use mathlib.Core.Path.{◌≡◌, refl, sym, ap}
 use mathlib.Core.Bool.{Bool, true, false}
 use mathlib.Core.List.{List}
@@ -11,13 +14,10 @@ use borrow.Author.Tests.{lt-ltb, le-ltb}
 use Rattle.fields.specs.Bytes.{pick}
 use Rattle.names.specs.Words.{Bytes}
 use Rattle.records.specs.Buffers.{overlay}
-use Rattle.story.specs.declared.Opened.{Opened}
-use Rattle.story.specs.declared.Opened.TheVariants as opened
 use Rattle.story.specs.Story.{Story}
 use Rattle.story.specs.File.{read_of, story_in}
 use Rattle.messages.specs.Messages.{Wrote}
-use Rattle.validator.specs.declared.Answer.{Answer}
-use Rattle.validator.specs.Results.{result_of}
+use Rattle.validator.specs.Results.{Answer, result_of}
 use Rattle.validator.specs.Check.{Report, refusing, story_report, report_at, report_of}
 use Rattle.validator.specs.Checked.{Checked}
 use Rattle.lines.specs.Lines.{report_line, line_room, check_line, input_report, text_length, line_of, Within}
@@ -34,10 +34,10 @@ tested file s true b = record { size_is = refl }
 tested file s false true = record { size_is = refl }
 tested file s false false = record { size_is = refl }
 
-sized : (o : Opened) (file : List ℕ) (index message : ℕ) → Sized (report_at o file index message)
+sized : (o : Result Sections Refusal) (file : List ℕ) (index message : ℕ) → Sized (report_at o file index message)
 unfolding text_length report_at
-sized (opened.Refused r) file index message = record { size_is = refl }
-sized (opened.At c) file index message = tested file (story_in c file) (ltb index (3 * (length file - 20))) (ltb message 640)
+sized (Err r) file index message = record { size_is = refl }
+sized (Ok c) file index message = tested file (story_in c file) (ltb index (3 * (length file - 20))) (ltb message 640)
 
 -- 2. The answer of a check
 

@@ -2,7 +2,7 @@
 use Rattle.std.specs.Prelude.{ℕ, ◌≡◌, List, length}
 use Rattle.records.specs.Buffers.{overlay}
 use Rattle.messages.specs.Messages.{Wrote}
-use Rattle.validator.specs.declared.Answer.{Answer}
+use Rattle.validator.specs.Results.{Answer}
 use Rattle.validator.specs.Checked.{Checked}
 use Rattle.lines.specs.Lines.{check_line, input_report, input_line, Within}
 

@@ -3,8 +3,7 @@ use Rattle.std.specs.Prelude.{ℕ, zero, suc, ◌+◌, ◌/◌, ◌%◌, ◌≤�
 use Rattle.fields.specs.Bytes.{pick}
 use Rattle.names.specs.Words.{Bytes}
 use Rattle.names.specs.Text.{ascii}
-use Rattle.validator.specs.declared.Answer.{Answer}
-use Rattle.validator.specs.Results.{accepted, breach, Result, refused, checked, result_of}
+use Rattle.validator.specs.Results.{accepted, breach, Result, refused, checked, Answer, result_of}
 use Rattle.validator.specs.Check.{Report, refusing, report_of}
 
 -- a number below 10 ^ k in decimal, with no zeros in front; where k is 0, nothing

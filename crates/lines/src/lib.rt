@@ -1,55 +1,80 @@
 // The line that a program prints for a story file, written into a buffer that the caller lends.
 #![tactic(auto)]
 
-ghost use Rattle.std.specs.Prelude.{◌≡◌, ◌+◌, ◌≤◌, length, [], ◌∷◌};
+ghost use Rattle.std.specs.Prelude.{◌≡◌, ◌+◌, ◌≤◌, length};
 ghost use Rattle.messages.specs.Messages.{Wrote};
 ghost use Rattle.validator.specs.Results.{result_of};
-ghost use Rattle.lines.specs.Lines.{digits, refused_line, breach_line, text_length, line_of};
+ghost use Rattle.lines.specs.Lines.{decimal, refused_line, breach_line, text_length, line_of};
 ghost use Rattle.lines.specs.Lined.{CheckLined, InputLined};
 
-use fields::refusal_number;
-use messages::put;
+use itoa::Buffer;
+use messages::Text;
 use rules::rule_number;
-use validator::{Answer, check};
+use validator::{CheckRefusal, Verdict, check};
 
-// The answer of a check, and the length of its line.
+// What a check answers, and the length of its line.
 #[derive(Clone, Copy)]
 pub struct CheckedLine {
-    pub answer: Answer,
+    pub answer: Result<Verdict, CheckRefusal>,
     pub length: usize,
 }
 
-// A byte as a number of more bits.
-fn wide(b: u8) -> usize
-    ensures { result ≡ b }
+// Writes a number in decimal.
+fn put_number(text: &mut Text, n: usize)
+    requires { text.old.end + 20 ≤ length text.old.out.now }
+    ensures same_buffer { text.new.out.ghost_name ≡ text.old.out.ghost_name }
+    ensures same_length { length text.new.out.now ≡ length text.old.out.now }
+    ensures wrote { Wrote text.old.out.now text.old.end (decimal n) text.new.out.now text.new.end }
+    ensures upper_bound { text.new.end ≤ text.old.end + 20 }
 {
-    b as usize
+    let mut buffer = Buffer::new();
+    let digits = buffer.format(n);
+    text.put(digits.as_bytes());
 }
 
-// Writes a digit at `at`, and answers where it ends.
-fn put_digit(out: &mut [u8], at: usize, d: usize) -> usize
-    requires d_bound { d ≤ 9 }
-    requires at_in_bounds { at + 1 ≤ length out.old }
-    ensures { Wrote out.old at ((48 + d) ∷ []) out.new result }
+// Writes the line of a refusal.
+fn put_refused(text: &mut Text, n: usize)
+    requires { text.old.end + 40 ≤ length text.old.out.now }
+    ensures same_buffer { text.new.out.ghost_name ≡ text.old.out.ghost_name }
+    ensures wrote { Wrote text.old.out.now text.old.end (refused_line n) text.new.out.now text.new.end }
 {
-    let one = [48 + d as u8];
-    put(out, at, &one)
+    text.put(b"refused ");
+    put_number(text, n);
+    text.put(b"\n");
 }
 
-// Writes a number of at most k digits in decimal from `at` on, and answers where it ends.
-fn put_digits(out: &mut [u8], at: usize, n: usize, k: usize) -> usize
-    requires { at + k ≤ length out.old }
-    ensures wrote { Wrote out.old at (digits k n) out.new result }
-    ensures upper_bound { result ≤ at + k }
+// Writes the line of a breach.
+fn put_breach(text: &mut Text, rule: usize, place: usize, message: &[u8])
+    requires { text.old.end + length message.now + 60 ≤ length text.old.out.now }
+    ensures same_buffer { text.new.out.ghost_name ≡ text.old.out.ghost_name }
+    ensures wrote { Wrote text.old.out.now text.old.end (breach_line rule place message.now) text.new.out.now text.new.end }
 {
-    if k == 0 {
-        return at;
+    text.put(b"breach ");
+    put_number(text, rule);
+    text.put(b" at ");
+    put_number(text, place);
+    text.put(b": ");
+    text.put(message);
+    text.put(b"\n");
+}
+
+// Writes the line of an answer, whose text stands at the start of the message buffer.
+#[tactic(auto, unfolding(crate::specs::Lines::result_line, crate::specs::Lines::text_length, validator::specs::Results::result_of))]
+fn put_line(text: &mut Text, answer: Result<Verdict, CheckRefusal>, message: &[u8])
+    requires answer_in_bounds { text_length (result_of answer) ≤ length message.now }
+    requires message_in_bounds { text.old.end + length message.now + 60 ≤ length text.old.out.now }
+    ensures same_buffer { text.new.out.ghost_name ≡ text.old.out.ghost_name }
+    ensures wrote { Wrote text.old.out.now text.old.end (line_of answer message.now) text.new.out.now text.new.end }
+{
+    match answer {
+        Ok(Verdict::Accepted(_)) => text.put(b"accepted\n"),
+        Ok(Verdict::Breached(b)) => {
+            let rule = rule_number(b.rule);
+            let size = b.message;
+            put_breach(text, rule.into(), b.place, &message[..size])
+        }
+        Err(refusal) => put_refused(text, refusal.number()),
     }
-    if n < 10 {
-        return put_digit(out, at, n);
-    }
-    let last = put_digits(out, at, n / 10, k - 1);
-    put_digit(out, last, n % 10)
 }
 
 // Writes the line of a refusal at the buffer's start, and answers its length.
@@ -57,42 +82,20 @@ fn refused_line(n: usize, out: &mut [u8]) -> usize
     requires { 40 ≤ length out.old }
     ensures { Wrote out.old 0 (refused_line n) out.new result }
 {
-    let a = put(out, 0, b"refused ");
-    let b = put_digits(out, a, n, 20);
-    put(out, b, b"\n")
+    let mut text = Text::new(out);
+    put_refused(&mut text, n);
+    text.end
 }
 
-// Writes the line of a breach at the buffer's start, and answers its length.
-fn breach_line(rule: usize, place: usize, text: &[u8], out: &mut [u8]) -> usize
-    requires { length text.now + 60 ≤ length out.old }
-    ensures { Wrote out.old 0 (breach_line rule place text.now) out.new result }
-{
-    let a = put(out, 0, b"breach ");
-    let b = put_digits(out, a, rule, 20);
-    let c = put(out, b, b" at ");
-    let d = put_digits(out, c, place, 20);
-    let e = put(out, d, b": ");
-    let f = put(out, e, text);
-    put(out, f, b"\n")
-}
-
-// Writes the line of an answer at the buffer's start, its text at the start of the message buffer, and answers its length.
-fn line(answer: Answer, message: &[u8], out: &mut [u8]) -> usize
+// Writes the line of an answer at the buffer's start, and answers its length.
+fn line(answer: Result<Verdict, CheckRefusal>, message: &[u8], out: &mut [u8]) -> usize
     requires answer_in_bounds { text_length (result_of answer) ≤ length message.now }
     requires message_in_bounds { length message.now + 60 ≤ length out.old }
     ensures { Wrote out.old 0 (line_of answer message.now) out.new result }
 {
-    match answer {
-        Answer::Accepted(_) => put(out, 0, b"accepted\n"),
-        Answer::Breached(b) => {
-            let rule = b.rule;
-            let size = b.message;
-            breach_line(wide(rule_number(rule)), b.place, &message[..size], out)
-        }
-        Answer::Unreadable(r) => refused_line(refusal_number(r), out),
-        Answer::ShortIndex => refused_line(7, out),
-        Answer::ShortMessage => refused_line(8, out),
-    }
+    let mut text = Text::new(out);
+    put_line(&mut text, answer, message);
+    text.end
 }
 
 // Checks a file, and writes the line of the check's report at the buffer's start; where the buffer is too short for a line, nothing.

@@ -5,11 +5,11 @@ use mathlib.Core.Bool.{Bool, true}
 use Prim.Native.Nat.{ℕ, ◌-◌, ◌*◌, ◌≤◌, ◌<◌}
 use native.Mathlib.Omega.{arith}
 use lib.ListN.{length, take, drop}
+use Rattle.std.proofs.Common.{Ok, Err}
 use borrow.Author.Tests.{lt-ltb, le-ltb}
 use Rattle.fields.specs.declared.Refusal.{Refusal}
 use Rattle.names.specs.Words.{Bytes, any}
 use Rattle.story.specs.declared.Sections.{Sections}
-use Rattle.story.specs.declared.Opened.TheVariants as opened
 use Rattle.story.specs.Flows.{flows_in}
 use Rattle.story.specs.File.{read_of, story_in}
 use Rattle.story.proofs.Readable.{Readable, readable}
@@ -22,7 +22,7 @@ use Rattle.symbols.specs.Rows.{spellings_in}
 use Rattle.symbols.proofs.Owners.{index-written}
 use Rattle.symbols.proofs.ReadBack.{index_read}
 use Rattle.lookups.specs.declared.Target.{Target}
-use Rattle.lookups.specs.declared.LookupAnswer.TheVariants as answer
+use Rattle.lookups.specs.declared.LookupRefusal.TheVariants.{Unreadable, ShortIndex}
 use Rattle.lookups.specs.Results.{answer_of, result_of}
 use Rattle.lookups.specs.Lookup.{target_of, lookup_at, lookup_of, index_at, lookup_index, Looked}
 use Rattle.lookups.proofs.Promise.{promised}
@@ -34,16 +34,16 @@ unfolding story_in
 function-answer c file t e = flows-answer file t c.flows true c.end e
 
 module _ (file before : List ℕ) (t : Bytes) where
-  pub looked-refused : {r : Refusal} → read_of file ≡ opened.Refused r → Looked file before t (answer.Refused r) before
+  pub looked-refused : {r : Refusal} → read_of file ≡ Err r → Looked file before t (Err (Unreadable r)) before
   unfolding lookup_of lookup_at lookup_index index_at result_of
   looked-refused q = promised file before t (rw q) (rw q)
 
-  module _ (c : Sections) (q : read_of file ≡ opened.At c) where
+  module _ (c : Sections) (q : read_of file ≡ Ok c) where
     -- the room of the index, by the place of the trailer
     room : index_room file ≡ 3 * c.end
     room = omega (arith, (readable file c refl q).order.trailer)
 
-    pub looked-short : length before < 3 * c.end → Looked file before t answer.ShortIndex before
+    pub looked-short : length before < 3 * c.end → Looked file before t (Err ShortIndex) before
     unfolding lookup_of lookup_at lookup_index index_at result_of
     looked-short h =
         let short = lt-ltb (length before) (index_room file) (omega (arith, room)) in
@@ -53,7 +53,7 @@ module _ (file before : List ℕ) (t : Bytes) where
     pub looked-up : {after : List ℕ} {count : ℕ} {found : Target} → 3 * c.end ≤ length before
         → st after count ≡ store_all (st before 0) (placed (entries (story_in c file)))
         → answer_of found ≡ target_of (story_in c file).flows (spellings_in file count after) t
-        → Looked file before t (answer.Answered (record { target = found; entries = count })) after
+        → Looked file before t (Ok (record { target = found; entries = count })) after
     unfolding lookup_of lookup_at lookup_index index_at result_of
     looked-up {after} {count} {found} h w a =
         let good : Readable c file = readable file c refl q in

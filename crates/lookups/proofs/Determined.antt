@@ -2,12 +2,12 @@
 use mathlib.Core.Path.{◌≡◌, refl, sym, ◌∙◌, ap}
 use mathlib.Core.List.{[], ◌∷◌}
 use lib.ListN.{get_or}
+use Rattle.std.proofs.Common.{Ok, Err}
 use Rattle.fields.proofs.Refusals.{by_number, refusal-at}
 use Rattle.lookups.specs.declared.Target.{Target}
 use Rattle.lookups.specs.declared.Target.TheVariants as target
-use Rattle.lookups.specs.declared.LookupAnswer.{LookupAnswer}
-use Rattle.lookups.specs.declared.LookupAnswer.TheVariants.{Refused, ShortIndex, Answered}
-use Rattle.lookups.specs.Results.{Answer, pass, function, reserved, exact, ending, missing, Result, refused, answered, answer_of, result_of}
+use Rattle.lookups.specs.declared.LookupRefusal.TheVariants.{Unreadable, ShortIndex}
+use Rattle.lookups.specs.Results.{Answer, pass, function, reserved, exact, ending, missing, Result, refused, answered, LookupAnswer, answer_of, result_of}
 
 -- the target with an answer
 target_with : Answer → Target
@@ -20,8 +20,8 @@ target_with missing = target.Missing
 
 -- the answer with a result
 answer_with : Result → LookupAnswer
-answer_with (refused n) = get_or (by_number Refused ShortIndex (ShortIndex ∷ [])) n ShortIndex
-answer_with (answered a n) = Answered (record { target = target_with a; entries = n })
+answer_with (refused n) = Err (get_or (by_number Unreadable ShortIndex (ShortIndex ∷ [])) n ShortIndex)
+answer_with (answered a n) = Ok (record { target = target_with a; entries = n })
 
 target-back : (t : Target) → target_with (answer_of t) ≡ t
 unfolding target_with answer_of
@@ -34,9 +34,9 @@ target-back target.Missing = refl
 
 back : (r : LookupAnswer) → answer_with (result_of r) ≡ r
 unfolding answer_with by_number result_of
-back (Refused r) = refusal-at Refused ShortIndex (ShortIndex ∷ []) r
-back ShortIndex = refl
-back (Answered a) = ap (λ (t : Target). Answered (record { target = t; entries = a.entries })) (target-back a.target)
+back (Err (Unreadable r)) = ap Err (refusal-at Unreadable ShortIndex (ShortIndex ∷ []) r)
+back (Err ShortIndex) = refl
+back (Ok a) = ap (λ (t : Target). Ok (record { target = t; entries = a.entries })) (target-back a.target)
 
 pub determined : (a b : LookupAnswer) → result_of a ≡ result_of b → a ≡ b
 determined a b e = sym (back a) ∙ ap answer_with e ∙ back b

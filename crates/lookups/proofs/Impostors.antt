@@ -2,6 +2,7 @@
 use mathlib.Core.Path.{◌≡◌, refl, ◌∙◌, ap}
 use mathlib.Core.List.{List, [], ◌∷◌}
 use Prim.Native.Nat.{ℕ, ◌≤◌}
+use Rattle.std.proofs.Common.{Ok, Err}
 use native.Mathlib.Omega.{arith}
 use lib.ListN.{length, get_or}
 use borrow.Author.Tests.{le-ltb}
@@ -13,7 +14,6 @@ use Rattle.records.specs.Trace.{and_then, shift, met, ends}
 use Rattle.records.specs.Grammar.{repeat_n, repeat, named_at, nodes}
 use Rattle.records.specs.Buffers.{overlay}
 use Rattle.story.specs.declared.Sections.{Sections}
-use Rattle.story.specs.declared.Opened.TheVariants as opened
 use Rattle.records.specs.Items.{items_ended, items_in}
 use Rattle.story.specs.Flows.{names, flows, names_n, names_in, part, pieces_n, pieces_in, flows_in}
 use Rattle.story.specs.File.{marked, start_at, opened_of, sections_read, read_ended, read_at, read_of, story_in}
@@ -22,9 +22,8 @@ use Rattle.symbols.specs.Numbers.{absent, numbers}
 use Rattle.symbols.specs.Placed.{placed, index_of}
 use Rattle.symbols.specs.Rows.{first_of}
 use Rattle.lookups.specs.declared.Target.TheVariants as target
-use Rattle.lookups.specs.declared.LookupAnswer.{LookupAnswer}
-use Rattle.lookups.specs.declared.LookupAnswer.TheVariants.{Refused, Answered}
-use Rattle.lookups.specs.Results.{exact, answered, answer_of, result_of}
+use Rattle.lookups.specs.declared.LookupRefusal.TheVariants.{Unreadable}
+use Rattle.lookups.specs.Results.{exact, answered, LookupAnswer, answer_of, result_of}
 use Rattle.lookups.specs.Lookup.{entry_of, target_of, lookup_at, lookup_of, index_at, lookup_index, Looked}
 
 -- a file with the global x alone: starts 0, 2, 2, 2, and the mark
@@ -39,7 +38,7 @@ sections = record { externals = 2; root = 2; flows = 2; end = 2 }
 abbrev x : Bytes
 x = 120 ∷ []
 
-readable : read_of global_file ≡ opened.At sections
+readable : read_of global_file ≡ Ok sections
 unfolding global_file read_of read_at opened_of marked start_at sections_read read_ended names flows nodes part repeat repeat_n name_of named_at and_then shift ends
 readable = refl
 
@@ -57,12 +56,12 @@ written index h = rw (readable, le-ltb (length index) 6 h)
 pub record Impostors : Type 0 where
   -- one answering Missing before the search
   pub missing-before-the-search : (index index' : List ℕ) (n : ℕ) → 6 ≤ length index
-      → Looked global_file index x (Answered (record { target = target.Missing; entries = n })) index' → ⊥
+      → Looked global_file index x (Ok (record { target = target.Missing; entries = n })) index' → ⊥
   -- one answering refusal 4 for all
-  pub refusing-all : (index index' : List ℕ) → 6 ≤ length index → Looked global_file index x (Refused Short) index' → ⊥
+  pub refusing-all : (index index' : List ℕ) → 6 ≤ length index → Looked global_file index x (Err (Unreadable Short)) index' → ⊥
   -- one with an invented entry count; there is one entry
   pub invented-count : (index index' : List ℕ) (n : ℕ) → (n ≡ 1 → ⊥) → 6 ≤ length index
-      → Looked global_file index x (Answered (record { target = target.Exact 0; entries = n })) index' → ⊥
+      → Looked global_file index x (Ok (record { target = target.Exact 0; entries = n })) index' → ⊥
   -- one leaving the index as it was, which does not begin with the number for none by chance
   pub index-left-blank : (r : LookupAnswer) (index : List ℕ) → (get_or index 0 0 ≡ absent → ⊥) → 6 ≤ length index → Looked global_file index x r index → ⊥
 

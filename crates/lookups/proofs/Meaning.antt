@@ -1,4 +1,5 @@
 -- What the answers of a lookup say: an entry matches, and Missing says that nothing does. Assumes nothing.
+use Rattle.std.specs.Prelude.{Option, Some, None}
 use mathlib.Core.Path.{◌≡◌, refl, sym, ◌∙◌, ap}
 use mathlib.Core.Bool.{Bool, true, false, ◌||◌}
 use mathlib.Core.List.{List, [], ◌∷◌}
@@ -11,8 +12,6 @@ use Rattle.names.specs.Reserved.{END, DONE, back}
 use Rattle.names.specs.Targets.{passes}
 use Rattle.story.specs.Story.{Flow}
 use Rattle.searches.specs.Called.{is_function}
-use Rattle.symbols.specs.declared.Found.{Found}
-use Rattle.symbols.specs.declared.Found.TheVariants as found
 use Rattle.symbols.specs.Fits.{answers}
 use Rattle.symbols.specs.Rows.{first_of}
 use Rattle.symbols.proofs.Searched.{FirstAt, first-at, first-none, none_first}
@@ -37,23 +36,23 @@ both_false true b e = let z : ◌≡◌ {A = ℕ} 0 1 = cc in absurd (omega arit
 both_false false b e = (refl, e)
 
 -- what was found, by the answer
-exact-of : (x y : Found) (k : ℕ) → entry_of x y ≡ answer.exact k → x ≡ found.At k
+exact-of : (x y : Option ℕ) (k : ℕ) → entry_of x y ≡ answer.exact k → x ≡ Some k
 unfolding entry_of ending_answer
-exact-of (found.At m) y k e = let z : m ≡ k = cc in ap found.At z
-exact-of found.Nowhere (found.At m) k e = let z : ◌≡◌ {A = ℕ} 0 1 = cc in absurd (omega arith)
-exact-of found.Nowhere found.Nowhere k e = let z : ◌≡◌ {A = ℕ} 0 1 = cc in absurd (omega arith)
+exact-of (Some m) y k e = let z : m ≡ k = cc in ap Some z
+exact-of None (Some m) k e = let z : ◌≡◌ {A = ℕ} 0 1 = cc in absurd (omega arith)
+exact-of None None k e = let z : ◌≡◌ {A = ℕ} 0 1 = cc in absurd (omega arith)
 
-ending_of : (x y : Found) (k : ℕ) → entry_of x y ≡ answer.ending k → (x ≡ found.Nowhere) × (y ≡ found.At k)
+ending_of : (x y : Option ℕ) (k : ℕ) → entry_of x y ≡ answer.ending k → (x ≡ None) × (y ≡ Some k)
 unfolding entry_of ending_answer
-ending_of (found.At m) y k e = let z : ◌≡◌ {A = ℕ} 0 1 = cc in absurd (omega arith)
-ending_of found.Nowhere (found.At m) k e = let z : m ≡ k = cc in (refl, ap found.At z)
-ending_of found.Nowhere found.Nowhere k e = let z : ◌≡◌ {A = ℕ} 0 1 = cc in absurd (omega arith)
+ending_of (Some m) y k e = let z : ◌≡◌ {A = ℕ} 0 1 = cc in absurd (omega arith)
+ending_of None (Some m) k e = let z : m ≡ k = cc in (refl, ap Some z)
+ending_of None None k e = let z : ◌≡◌ {A = ℕ} 0 1 = cc in absurd (omega arith)
 
-missing-of : (x y : Found) → entry_of x y ≡ answer.missing → (x ≡ found.Nowhere) × (y ≡ found.Nowhere)
+missing-of : (x y : Option ℕ) → entry_of x y ≡ answer.missing → (x ≡ None) × (y ≡ None)
 unfolding entry_of ending_answer
-missing-of (found.At m) y e = let z : ◌≡◌ {A = ℕ} 0 1 = cc in absurd (omega arith)
-missing-of found.Nowhere (found.At m) e = let z : ◌≡◌ {A = ℕ} 0 1 = cc in absurd (omega arith)
-missing-of found.Nowhere found.Nowhere e = (refl, refl)
+missing-of (Some m) y e = let z : ◌≡◌ {A = ℕ} 0 1 = cc in absurd (omega arith)
+missing-of None (Some m) e = let z : ◌≡◌ {A = ℕ} 0 1 = cc in absurd (omega arith)
+missing-of None None e = (refl, refl)
 
 module _ (flows : List Flow) (spelled : List Bytes) (t : Bytes) where
   -- an answer that only an entry can give

@@ -1,4 +1,6 @@
 -- What a lookup promises follows from its two equations. Assumes nothing.
+use Rattle.std.specs.Prelude.{Result, Ok, Err}
+use Rattle.fields.specs.declared.Refusal.{Refusal}
 use mathlib.Core.Path.{◌≡◌, refl, sym, ◌∙◌}
 use mathlib.Core.Bool.{Bool, true, false}
 use mathlib.Core.List.{List}
@@ -11,15 +13,12 @@ use Rattle.fields.specs.Bytes.{pick}
 use Rattle.names.specs.Words.{Bytes}
 use Rattle.story.specs.Story.{Story}
 use Rattle.story.specs.declared.Sections.{Sections}
-use Rattle.story.specs.declared.Opened.{Opened}
-use Rattle.story.specs.declared.Opened.TheVariants as opened
 use Rattle.story.specs.File.{read_of, story_in}
 use Rattle.symbols.specs.Index.{entries, spellings}
 use Rattle.symbols.specs.Numbers.{index_room}
 use Rattle.symbols.specs.Placed.{index_of}
 use Rattle.symbols.proofs.Searched.{FirstAt}
-use Rattle.lookups.specs.declared.LookupAnswer.{LookupAnswer}
-use Rattle.lookups.specs.Results.{Answer, refused, answered, result_of}
+use Rattle.lookups.specs.Results.{Answer, refused, answered, LookupAnswer, result_of}
 use Rattle.lookups.specs.Lookup.{target_of, answered_of, lookup_at, lookup_of, index_at, lookup_index, Looked}
 use Rattle.lookups.specs.Meaning.{Matches, Meant}
 use Rattle.lookups.proofs.Meaning.{exact_matches, ending_matches, missing_means}
@@ -38,20 +37,20 @@ target-meant s t = record {
 
 -- 2. By how the file was opened, and by the test on the index
 
-refused-index : (o : Opened) (file before t : List ℕ) (n : ℕ) → lookup_at o file (length before) t ≡ refused n → index_at o file before ≡ before
+refused-index : (o : Result Sections Refusal) (file before t : List ℕ) (n : ℕ) → lookup_at o file (length before) t ≡ refused n → index_at o file before ≡ before
 unfolding lookup_at index_at
-refused-index (opened.Refused r) file before t n e = refl
-refused-index (opened.At c) file before t n e = by-test (ltb (length before) (index_room file)) e
+refused-index (Err r) file before t n e = refl
+refused-index (Ok c) file before t n e = by-test (ltb (length before) (index_room file)) e
   where
     by-test : (b : Bool) → pick b (refused 7) (answered_of (story_in c file) t) ≡ refused n → pick b before (index_of (story_in c file) before) ≡ before
     by-test true e = refl
     by-test false e = let z : ◌≡◌ {A = ℕ} 0 1 = cc in absurd (omega arith)
 
-answered-meant : (o : Opened) (file t : List ℕ) (index : ℕ) (a : Answer) (n : ℕ) → lookup_at o file index t ≡ answered a n
-    → (c : Sections) × (o ≡ opened.At c) × (n ≡ length (entries (story_in c file))) × Meant (story_in c file) t a
+answered-meant : (o : Result Sections Refusal) (file t : List ℕ) (index : ℕ) (a : Answer) (n : ℕ) → lookup_at o file index t ≡ answered a n
+    → (c : Sections) × (o ≡ Ok c) × (n ≡ length (entries (story_in c file))) × Meant (story_in c file) t a
 unfolding lookup_at
-answered-meant (opened.Refused r) file t index a n e = let z : ◌≡◌ {A = ℕ} 0 1 = cc in absurd (omega arith)
-answered-meant (opened.At c) file t index a n e = let d = by-test (ltb index (index_room file)) e in (c, refl, d.0, d.1)
+answered-meant (Err r) file t index a n e = let z : ◌≡◌ {A = ℕ} 0 1 = cc in absurd (omega arith)
+answered-meant (Ok c) file t index a n e = let d = by-test (ltb index (index_room file)) e in (c, refl, d.0, d.1)
   where
     s : Story
     s = story_in c file

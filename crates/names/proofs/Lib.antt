@@ -5,6 +5,5 @@ pub mod Any
 pub mod Lists
 pub mod Means
 pub mod Counted
-pub mod Reserved
 pub mod Targets
 pub mod Search

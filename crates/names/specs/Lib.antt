@@ -4,4 +4,3 @@ pub mod Text
 pub mod Reserved
 pub mod Targets
 pub mod Counted
-pub mod Number

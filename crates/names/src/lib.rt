@@ -6,59 +6,33 @@ ghost use Rattle.names.specs.Words.{same, one_of};
 ghost use Rattle.names.specs.Reserved.{END, DONE, back, builtins};
 ghost use Rattle.names.specs.Targets.{passes};
 ghost use Rattle.names.specs.Counted.{name_at};
-ghost use Rattle.names.specs.Number.{word_number};
 
-// Two names have the same bytes. Stops at the first byte that differs.
+// Two names have the same bytes.
 pub fn same_name(a: &[u8], b: &[u8]) -> bool
     ensures { result ≡ same a.now b.now }
 {
-    if a.len() != b.len() {
-        return false;
-    }
-    let mut i = 0;
-    while i < a.len() {
-        if a[i] != b[i] {
-            return false;
-        }
-        i += 1;
-    }
-    true
+    a == b
 }
 
 // The target passes without being looked up: empty, "->", or starting with "$".
 pub fn passes(target: &[u8]) -> bool
     ensures { result ≡ passes target.now }
 {
-    if target.len() == 0 {
-        return true;
-    }
-    if target[0] == b'$' {
-        return true;
-    }
-    same_name(b"->", target)
+    target.is_empty() || target[0] == b'$' || same_name(b"->", target)
 }
 
 // The target is END, DONE or ->->.
 pub fn is_reserved(target: &[u8]) -> bool
     ensures { result ≡ one_of target.now (END ∷ DONE ∷ back ∷ []) }
 {
-    if same_name(target, b"END") {
-        return true;
-    }
-    if same_name(target, b"DONE") {
-        return true;
-    }
-    same_name(target, b"->->")
+    same_name(target, b"END") || same_name(target, b"DONE") || same_name(target, b"->->")
 }
 
 // The target is END or DONE.
 pub fn is_end_or_done(target: &[u8]) -> bool
     ensures { result ≡ (same END target.now || same DONE target.now) }
 {
-    if same_name(b"END", target) {
-        return true;
-    }
-    same_name(b"DONE", target)
+    same_name(b"END", target) || same_name(b"DONE", target)
 }
 
 // The name whose count byte stands at the place; where the file ends too early, what is left of it.
@@ -83,47 +57,24 @@ pub fn same_at(file: &[u8], at: usize, name: &[u8]) -> bool
     same_name(name, name_at(file, at))
 }
 
-// How many words there are.
-const WORD_COUNT: usize = 21;
-
 // The words of is_builtin_function, each with its count before it.
 const WORDS: [u8; 181] = *b"\x06RANDOM\x0bSEED_RANDOM\x03POW\x05FLOOR\x07CEILING\x03INT\x05FLOAT\
     \x03MIN\x03MAX\x0aREAD_COUNT\x0bTURNS_SINCE\x0cCHOICE_COUNT\x05TURNS\
     \x0aLIST_VALUE\x08LIST_ALL\x0bLIST_INVERT\x0aLIST_COUNT\x08LIST_MIN\x08LIST_MAX\
     \x0aLIST_RANGE\x0bLIST_RANDOM";
 
-// The number of the name among the words, or how many there are where it is none. Stops at the word found.
-fn find_word(name: &[u8]) -> usize
-    ensures { result ≡ word_number name.now builtins }
-{
-    let words = WORDS;
-    let mut rest: &[u8] = &words;
-    let mut number = 0;
-    'words: loop {
-        if rest.len() == 0 {
-            break 'words number;
-        }
-        let word = name_at(rest, 0);
-        if word.len() == name.len() {
-            let mut at = 0;
-            'bytes: loop {
-                if at == name.len() {
-                    break 'words number;
-                }
-                if name[at] != word[at] {
-                    break 'bytes;
-                }
-                at += 1;
-            }
-        }
-        rest = &rest[1 + word.len()..];
-        number += 1;
-    }
-}
-
-// The name is one of the 21 words of is_builtin_function.
+// The name is one of the 21 words of is_builtin_function. Stops at the word found.
 pub fn is_builtin_function(name: &[u8]) -> bool
     ensures { result ≡ one_of name.now builtins }
 {
-    find_word(name) < WORD_COUNT
+    let words = WORDS;
+    let mut rest: &[u8] = &words;
+    while 0 < rest.len() {
+        let word = name_at(rest, 0);
+        if same_name(name, word) {
+            return true;
+        }
+        rest = &rest[1 + word.len()..];
+    }
+    false
 }

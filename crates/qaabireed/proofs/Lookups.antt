@@ -4,18 +4,17 @@ use mathlib.Core.List.{List}
 use Prim.Native.Nat.{ℕ, ◌≤◌, ◌<◌, ◌^◌}
 use native.Mathlib.Omega.{arith}
 use lib.Dec.{lit<}
+use Rattle.std.proofs.Common.{Ok, Err}
 use lib.ListN.{length, length-map}
 use Rattle.names.specs.Words.{Bytes}
 use Rattle.story.specs.declared.Sections.{Sections}
-use Rattle.story.specs.declared.Opened.TheVariants as opened
 use Rattle.story.specs.Story.{Story}
 use Rattle.story.specs.File.{read_of, story_in}
 use Rattle.story.proofs.Readable.{readable}
 use Rattle.symbols.specs.Index.{spelling, entries}
 use Rattle.symbols.proofs.Owners.{entries-few}
-use Rattle.lookups.specs.declared.LookupAnswer.{LookupAnswer}
-use Rattle.lookups.specs.declared.LookupAnswer.TheVariants.{Refused, ShortIndex, Answered}
-use Rattle.lookups.specs.Results.{Answer, answer_of, result_of}
+use Rattle.lookups.specs.declared.LookupRefusal.TheVariants.{Unreadable, ShortIndex}
+use Rattle.lookups.specs.Results.{Answer, LookupAnswer, answer_of, result_of}
 use Rattle.lookups.specs.Results as lookup
 use Rattle.lookups.specs.Meaning.{Meant}
 use Rattle.lookups.specs.Lookup.{Looked}
@@ -35,14 +34,14 @@ module _ (s : Story) (t : Bytes) (short : length (entries s) ≤ 1048576) {n : �
   answer-narrow lookup.missing m = (lit< tt, (lit< tt, (lit< tt, (h, tt))))
 
 -- no more entries than bytes
-entries-short : (file : List ℕ) {c : Sections} → read_of file ≡ opened.At c → length (entries (story_in c file)) ≤ 1048576
+entries-short : (file : List ℕ) {c : Sections} → read_of file ≡ Ok c → length (entries (story_in c file)) ≤ 1048576
 entries-short file {c} e = let r = readable file c refl e in omega (arith, entries-few c file r, r.order)
 
 pub looked-narrow : {file before target : List ℕ} {r : LookupAnswer} {after : List ℕ} → Looked file before target r after → Narrow (lookup_numbers (result_of r))
 unfolding lookup_numbers result_of
-looked-narrow {r = Refused x} l = (lit< tt, (refusal-narrow x, (lit< tt, (lit< tt, tt))))
-looked-narrow {r = ShortIndex} l = (lit< tt, (lit< tt, (lit< tt, (lit< tt, tt))))
-looked-narrow {file} {target = target} {r = Answered a} l =
+looked-narrow {r = Err (Unreadable x)} l = (lit< tt, (refusal-narrow x, (lit< tt, (lit< tt, tt))))
+looked-narrow {r = Err ShortIndex} l = (lit< tt, (lit< tt, (lit< tt, (lit< tt, tt))))
+looked-narrow {file} {target = target} {r = Ok a} l =
     let m = l.means (answer_of a.target) a.entries refl in
     let few = entries-short file m.1 in
     answer-narrow (story_in m.0 file) target few (omega (arith, m.2, few)) (answer_of a.target) m.3

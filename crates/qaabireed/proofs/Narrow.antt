@@ -1,4 +1,5 @@
 -- Each number of what a check answers has 32 bits: `checked-narrow`. Assumes nothing.
+use Rattle.std.specs.Prelude.{Result}
 use mathlib.Core.Path.{◌≡◌, refl, sym, ◌∙◌}
 use mathlib.Core.Bool.{Bool, true, false}
 use mathlib.Core.List.{List}
@@ -7,6 +8,7 @@ use Prim.Native.Nat.{ℕ, ◌-◌, ◌*◌, ◌≤◌, ◌<◌, ◌^◌}
 use native.Mathlib.Omega.{arith}
 use lib.Dec.{ltb, lit<}
 use lib.ListN.{length, get_or}
+use Rattle.std.proofs.Common.{Ok, Err}
 use Rattle.fields.specs.Bytes.{pick}
 use Rattle.fields.specs.declared.Refusal.{Refusal}
 use Rattle.fields.specs.declared.Refusal.TheVariants.{Length, Mark, Starts, Short, Unknown, Deep}
@@ -14,8 +16,6 @@ use Rattle.fields.specs.Refusals.{refusal_number}
 use Rattle.names.specs.Counted.{name_at}
 use Rattle.names.proofs.Counted.{name-length}
 use Rattle.story.specs.declared.Sections.{Sections}
-use Rattle.story.specs.declared.Opened.{Opened}
-use Rattle.story.specs.declared.Opened.TheVariants as opened
 use Rattle.story.specs.Story.{Story}
 use Rattle.story.specs.File.{read_of, story_in}
 use Rattle.story.proofs.Readable.{readable}
@@ -27,9 +27,9 @@ use Rattle.rules.specs.Reader.{story_at, story_of}
 use Rattle.rules.proofs.Least.{Least}
 use Rattle.rules.proofs.FileDemand.{file-demand3}
 use Rattle.messages.proofs.Length.{message_fits}
-use Rattle.validator.specs.declared.Answer.{Answer}
-use Rattle.validator.specs.declared.Answer.TheVariants.{Accepted, Breached, Unreadable, ShortIndex, ShortMessage}
-use Rattle.validator.specs.Results.{Judged, accepted, breach, refused, checked, result_of}
+use Rattle.validator.specs.declared.Verdict.TheVariants.{Accepted, Breached}
+use Rattle.validator.specs.declared.CheckRefusal.TheVariants.{Unreadable, ShortIndex, ShortMessage}
+use Rattle.validator.specs.Results.{Judged, accepted, breach, refused, checked, Answer, result_of}
 use Rattle.validator.specs.Check.{judged_of, text_of, Report, refusing, story_report, report_at, report_of}
 use Rattle.validator.specs.Checked.{Checked}
 use Rattle.qaabireed.specs.Numbers.{judged_numbers, result_numbers, Narrow}
@@ -53,7 +53,7 @@ breached-narrow rule place names n k a b c h l = (lit< tt, (a, (b, (c.0, (c.1, (
 -- judgement, entry count and message length are those of the file's story
 record Counted (file : List ℕ) (j : Judged) (n k : ℕ) : Type 0 where
   sections : Sections
-  opens : read_of file ≡ opened.At sections
+  opens : read_of file ≡ Ok sections
   judges : j ≡ judged_of (verdict (story_in sections file))
   entries-are : n ≡ length (entries (story_in sections file))
   size_is : k ≡ length (text_of file (verdict (story_in sections file)))
@@ -69,10 +69,10 @@ module _ (file : List ℕ) (s : Story) where
   tested-counts false true j n k e = let z : ◌≡◌ {A = ℕ} 0 1 = cc in absurd (omega arith)
   tested-counts false false j n k e = (cc, cc, cc)
 
-counted : (file : List ℕ) (index message : ℕ) (o : Opened) → read_of file ≡ o → (j : Judged) (n k : ℕ) → (report_at o file index message).result ≡ checked j n k → Counted file j n k
+counted : (file : List ℕ) (index message : ℕ) (o : Result Sections Refusal) → read_of file ≡ o → (j : Judged) (n k : ℕ) → (report_at o file index message).result ≡ checked j n k → Counted file j n k
 unfolding report_at
-counted file index message (opened.Refused r) p j n k e = let z : ◌≡◌ {A = ℕ} 0 1 = cc in absurd (omega arith)
-counted file index message (opened.At c) p j n k e =
+counted file index message (Err r) p j n k e = let z : ◌≡◌ {A = ℕ} 0 1 = cc in absurd (omega arith)
+counted file index message (Ok c) p j n k e =
     let t = tested-counts file (story_in c file) (ltb index (3 * (length file - 20))) (ltb message 640) j n k e in
     record { sections = c; opens = p; judges = t.0; entries-are = t.1; size_is = t.2 }
 
@@ -126,11 +126,11 @@ refusal-narrow Deep = lit< tt
 
 answer-narrow : (a : Answer) → ((j : Judged) (n k : ℕ) → result_of a ≡ checked j n k → Narrow (judged_numbers j n k)) → Narrow (result_numbers (result_of a))
 unfolding result_of result_numbers
-answer-narrow (Accepted n) h = h accepted n 0 refl
-answer-narrow (Breached b) h = h (breach (number b.rule) b.place (b.first, b.second)) b.entries b.message refl
-answer-narrow (Unreadable r) h = refused-narrow (refusal_number r) (refusal-narrow r)
-answer-narrow ShortIndex h = refused-narrow 7 (lit< tt)
-answer-narrow ShortMessage h = refused-narrow 8 (lit< tt)
+answer-narrow (Ok (Accepted n)) h = h accepted n 0 refl
+answer-narrow (Ok (Breached b)) h = h (breach (number b.rule) b.place (b.first, b.second)) b.entries b.message refl
+answer-narrow (Err (Unreadable r)) h = refused-narrow (refusal_number r) (refusal-narrow r)
+answer-narrow (Err ShortIndex) h = refused-narrow 7 (lit< tt)
+answer-narrow (Err ShortMessage) h = refused-narrow 8 (lit< tt)
 
 pub checked-narrow : {file index message : List ℕ} {r : Answer} {index' message' : List ℕ} → ((i : ℕ) → get_or file i 0 < 256)
     → Checked file index message r index' message' → Narrow (result_numbers (result_of r))

@@ -2,34 +2,26 @@
 use mathlib.Core.Path.{◌≡◌}
 use mathlib.Core.List.{List}
 use Prim.Native.Nat.{ℕ, ◌≤◌, ◌<◌, ◌^◌}
-use native.Mathlib.Nat.{zero-add}
 use native.Mathlib.Omega.{arith}
 use lib.ListN.{length}
-use lib.Seq.{sets, sets-eq}
+use Rattle.std.proofs.Common.{Ok, Err}
 use borrow.Author.Tests.{lt-ltb, le-ltb}
-use Rattle.fields.specs.declared.Refusal.{Refusal}
-use Rattle.fields.specs.Refusals.{refusal_number}
 use Rattle.records.specs.Buffers.{overlay}
 use Rattle.validator.specs.declared.Breach.{Breach}
-use Rattle.validator.specs.declared.Answer.{Answer}
-use Rattle.validator.specs.declared.Answer.TheVariants.{Accepted, Breached, Unreadable}
-use Rattle.validator.specs.Results.{result_of}
+use Rattle.validator.specs.declared.Verdict.{Verdict}
+use Rattle.validator.specs.declared.Verdict.TheVariants.{Accepted, Breached}
+use Rattle.validator.specs.declared.CheckRefusal.{CheckRefusal}
+use Rattle.validator.specs.Results.{Answer, number_of, result_of}
 use Rattle.validator.specs.Checked.{Checked}
-use Rattle.lookups.specs.declared.LookupAnswer.{LookupAnswer}
-use Rattle.lookups.specs.declared.LookupAnswer.TheVariants as answer
+use Rattle.lookups.specs.declared.LookupRefusal.{LookupRefusal}
 use Rattle.lookups.specs.declared.Answered.{Answered}
 use Rattle.lookups.specs.declared.Target.{Target}
 use Rattle.lookups.specs.declared.Target.TheVariants as target
-use Rattle.lookups.specs.Results.{answer_of}
+use Rattle.lookups.specs.Results.{LookupAnswer, answer_of}
 use Rattle.lookups.specs.Results as lookup
 use Rattle.lookups.specs.Lookup.{Looked}
 use Rattle.qaabireed.specs.Numbers.{result_numbers, answer_numbers, lookup_numbers, Narrow}
 use Rattle.qaabireed.specs.Calls.{CheckCalled, LookupCalled}
-
--- numbers stored one after the other from the buffer's start
-pub stored : (xs buffer : List ℕ) → length xs ≤ length buffer → sets buffer 0 xs ≡ overlay xs buffer
-unfolding overlay
-stored xs buffer h = rw (zero-add (length xs)) at (sets-eq xs buffer 0 (omega arith))
 
 -- a breach's numbers but its rule's have 32 bits
 pub record Fits (b : Breach) : Type 0 where
@@ -41,18 +33,18 @@ pub record Fits (b : Breach) : Type 0 where
 
 -- the numbers of an answer have 32 bits, each case
 module _ {a : Answer} (w : Narrow (result_numbers (result_of a))) where
-  pub accepted-fits : {n : ℕ} → a ≡ Accepted n → n < 2 ^ 32
+  pub accepted-fits : {v : Verdict} {n : ℕ} → a ≡ Ok v → v ≡ Accepted n → n < 2 ^ 32
   unfolding result_numbers result_of
-  accepted-fits e = (rw e at w).1.1.1.1.1.0
+  accepted-fits e f = (rw (e, f) at w).1.1.1.1.1.0
 
-  pub refusal-fits : {r : Refusal} {n : ℕ} → a ≡ Unreadable r → n ≡ refusal_number r → n < 2 ^ 32
+  pub refusal-fits : {r : CheckRefusal} → a ≡ Err r → number_of r < 2 ^ 32
   unfolding result_numbers result_of
-  refusal-fits e f = rw f (rw e at w).1.0
+  refusal-fits e = (rw e at w).1.0
 
-  pub breach-fits : {b : Breach} → a ≡ Breached b → Fits b
+  pub breach-fits : {v : Verdict} {b : Breach} → a ≡ Ok v → v ≡ Breached b → Fits b
   unfolding result_numbers result_of
-  breach-fits e =
-      let n = rw e at w in
+  breach-fits e f =
+      let n = rw (e, f) at w in
       record { place = n.1.1.0; first = n.1.1.1.0; second = n.1.1.1.1.0; entries = n.1.1.1.1.1.0; message = n.1.1.1.1.1.1.0 }
 
 -- the entry count of an answer has 32 bits
@@ -66,15 +58,15 @@ entries_fit lookup.missing n w = w.1.1.1.0
 
 -- likewise of a lookup's answer
 module _ {a : LookupAnswer} (w : Narrow (lookup_numbers (lookup.result_of a))) where
-  pub lookup-refusal-fits : {r : Refusal} {n : ℕ} → a ≡ answer.Refused r → n ≡ refusal_number r → n < 2 ^ 32
+  pub lookup-refusal-fits : {r : LookupRefusal} → a ≡ Err r → lookup.number_of r < 2 ^ 32
   unfolding lookup_numbers lookup.result_of
-  lookup-refusal-fits e f = rw f (rw e at w).1.0
+  lookup-refusal-fits e = (rw e at w).1.0
 
-  pub answered-fits : {f : Answered} → a ≡ answer.Answered f → Narrow (answer_numbers (answer_of f.target) f.entries)
+  pub answered-fits : {f : Answered} → a ≡ Ok f → Narrow (answer_numbers (answer_of f.target) f.entries)
   unfolding lookup_numbers lookup.result_of
   answered-fits e = rw e at w
 
-  pub answered-entries : {f : Answered} → a ≡ answer.Answered f → f.entries < 2 ^ 32
+  pub answered-entries : {f : Answered} → a ≡ Ok f → f.entries < 2 ^ 32
   answered-entries {f} e = entries_fit (answer_of f.target) f.entries (answered-fits e)
 
 -- likewise of what a target is

@@ -2,11 +2,10 @@
 use Rattle.std.specs.Prelude.{ℕ, ◌≤◌, ◌≡◌, Bool, List, length, ltb}
 use Rattle.fields.specs.Bytes.{pick}
 use Rattle.records.specs.Buffers.{overlay}
-use Rattle.validator.specs.declared.Answer.{Answer}
-use Rattle.validator.specs.Results.{result_of}
+use Rattle.validator.specs.Results.{Answer, result_of}
 use Rattle.validator.specs.Check.{report_of}
 use Rattle.validator.specs.Checked.{Checked}
-use Rattle.lookups.specs.declared.LookupAnswer.{LookupAnswer}
+use Rattle.lookups.specs.Results.{LookupAnswer}
 use Rattle.lookups.specs.Results as lookup
 use Rattle.lookups.specs.Lookup.{lookup_of, lookup_index, Looked}
 use Rattle.qaabireed.specs.Numbers.{result_numbers, lookup_numbers}

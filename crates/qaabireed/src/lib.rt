@@ -1,83 +1,52 @@
 // The calls for programs in other languages, on lent buffers of numbers; `qaabireed_c` exports them.
 #![tactic(auto)]
 
-ghost use Rattle.std.specs.Prelude.{◌≡◌, [], ◌∷◌, ◌≤◌, ◌<◌, ◌^◌, length};
+ghost use Rattle.std.specs.Prelude.{◌≡◌, ◌≤◌, length};
 ghost use Rattle.records.specs.Buffers.{overlay};
 ghost use Rattle.validator.specs.Results.{result_of};
 ghost use Rattle.lookups.specs.Results as lookup;
 ghost use Rattle.lookups.specs.Results.{answer_of};
-ghost use Rattle.qaabireed.specs.Numbers.{refused_numbers, result_numbers, answer_numbers, lookup_numbers, Narrow};
+ghost use Rattle.qaabireed.specs.Numbers.{result_numbers, answer_numbers, lookup_numbers, Narrow};
 ghost use Rattle.qaabireed.specs.Calls.{CheckCalled, LookupCalled};
 
-use fields::refusal_number;
-use lookups::{LookupAnswer, Target, lookup};
+use lookups::{Answered, LookupRefusal, Target, lookup};
 use rules::rule_number;
 use symbols::ABSENT;
-use validator::{Answer, check};
+use validator::{CheckRefusal, Verdict, check};
 
 // What a call returns: the result was written, or its buffer is too short.
 const OK: u32 = 0;
 
 const RESULT_TOO_SHORT: u32 = 1;
 
-// Writes the seven numbers of a check's result at the buffer's start.
-fn put_seven(
-    res: &mut [u32],
-    outcome: u32,
-    number: u32,
-    place: u32,
-    first: u32,
-    second: u32,
-    entries: u32,
-    message: u32,
-)
-    requires { 7 ≤ length res.old }
-    ensures { res.new ≡ overlay (outcome ∷ number ∷ place ∷ first ∷ second ∷ entries ∷ message ∷ []) res.old }
+// Writes numbers at the buffer's start; the rest stays.
+#[tactic(auto, unfolding(records::specs::Buffers::overlay))]
+fn put(res: &mut [u32], numbers: &[u32])
+    requires { length numbers.now ≤ length res.old }
+    ensures { res.new ≡ overlay numbers.now res.old }
 {
-    res[0] = outcome;
-    res[1] = number;
-    res[2] = place;
-    res[3] = first;
-    res[4] = second;
-    res[5] = entries;
-    res[6] = message;
+    let n = numbers.len();
+    res[..n].copy_from_slice(numbers);
 }
 
-// Writes the numbers of a check that is refused.
-fn put_refusal(res: &mut [u32], number: usize)
-    requires in_bounds { 7 ≤ length res.old }
-    requires number_bound { number < 2 ^ 32 }
-    ensures { res.new ≡ overlay (refused_numbers number) res.old }
-{
-    put_seven(res, 2, number as u32, ABSENT, ABSENT, ABSENT, 0, 0);
-}
-
-// Writes the numbers of a check's answer.
-fn put_check(res: &mut [u32], answer: Answer)
-    requires in_bounds { 7 ≤ length res.old }
-    requires narrow { Narrow (result_numbers (result_of answer)) }
-    ensures { res.new ≡ overlay (result_numbers (result_of answer)) res.old }
+// The numbers of a check's answer.
+#[tactic(auto, unfolding(crate::specs::Numbers::result_numbers, validator::specs::Results::result_of))]
+fn check_numbers(answer: Result<Verdict, CheckRefusal>) -> [u32; 7]
+    requires { Narrow (result_numbers (result_of answer)) }
+    ensures { result ≡ result_numbers (result_of answer) }
 {
     match answer {
-        Answer::Accepted(entries) => {
-            put_seven(res, 0, 0, ABSENT, ABSENT, ABSENT, entries as u32, 0)
-        }
-        Answer::Breached(b) => {
-            let rule = b.rule;
-            put_seven(
-                res,
-                1,
-                rule_number(rule) as u32,
-                b.place as u32,
-                b.first as u32,
-                b.second as u32,
-                b.entries as u32,
-                b.message as u32,
-            )
-        }
-        Answer::Unreadable(r) => put_refusal(res, refusal_number(r)),
-        Answer::ShortIndex => put_refusal(res, 7),
-        Answer::ShortMessage => put_refusal(res, 8),
+        Ok(Verdict::Accepted(entries)) => [0, 0, ABSENT, ABSENT, ABSENT, entries as u32, 0],
+        Ok(Verdict::Breached(b)) => [
+            1,
+            rule_number(b.rule).into(),
+            b.place as u32,
+            b.first as u32,
+            b.second as u32,
+            b.entries as u32,
+            b.message as u32,
+        ],
+        Err(refusal) => [2, refusal.number() as u32, ABSENT, ABSENT, ABSENT, 0, 0],
     }
 }
 
@@ -89,50 +58,35 @@ pub fn qaabireed_check(file: &[u8], index: &mut [u32], message: &mut [u8], res: 
         return RESULT_TOO_SHORT;
     }
     let answer = check(file, index, message);
-    put_check(res, answer);
+    put(res, &check_numbers(answer));
     OK
 }
 
-// Writes the four numbers of a lookup's result at the buffer's start.
-fn put_four(res: &mut [u32], outcome: u32, number: u32, entry: u32, entries: u32)
-    requires { 4 ≤ length res.old }
-    ensures { res.new ≡ overlay (outcome ∷ number ∷ entry ∷ entries ∷ []) res.old }
-{
-    res[0] = outcome;
-    res[1] = number;
-    res[2] = entry;
-    res[3] = entries;
-}
-
-// Writes the numbers of what a target is, with the entry count.
-fn put_target(res: &mut [u32], target: Target, entries: u32)
-    requires in_bounds { 4 ≤ length res.old }
-    requires narrow { Narrow (answer_numbers (answer_of target) entries) }
-    ensures { res.new ≡ overlay (answer_numbers (answer_of target) entries) res.old }
+// The numbers of what a target is, with the entry count.
+#[tactic(auto, unfolding(lookups::specs::Results::answer_of))]
+fn target_numbers(target: Target, entries: u32) -> [u32; 4]
+    requires { Narrow (answer_numbers (answer_of target) entries) }
+    ensures { result ≡ answer_numbers (answer_of target) entries }
 {
     match target {
-        Target::Pass => put_four(res, 0, 0, ABSENT, entries),
-        Target::Function => put_four(res, 0, 1, ABSENT, entries),
-        Target::Reserved => put_four(res, 0, 2, ABSENT, entries),
-        Target::Exact(k) => put_four(res, 0, 3, k as u32, entries),
-        Target::Ending(k) => put_four(res, 0, 4, k as u32, entries),
-        Target::Missing => put_four(res, 0, 5, ABSENT, entries),
+        Target::Pass => [0, 0, ABSENT, entries],
+        Target::Function => [0, 1, ABSENT, entries],
+        Target::Reserved => [0, 2, ABSENT, entries],
+        Target::Exact(k) => [0, 3, k as u32, entries],
+        Target::Ending(k) => [0, 4, k as u32, entries],
+        Target::Missing => [0, 5, ABSENT, entries],
     }
 }
 
-// Writes the numbers of a lookup's answer.
-fn put_lookup(res: &mut [u32], answer: LookupAnswer)
-    requires in_bounds { 4 ≤ length res.old }
-    requires narrow { Narrow (lookup_numbers (lookup.result_of answer)) }
-    ensures { res.new ≡ overlay (lookup_numbers (lookup.result_of answer)) res.old }
+// The numbers of a lookup's answer.
+#[tactic(auto, unfolding(crate::specs::Numbers::lookup_numbers, lookups::specs::Results::result_of))]
+fn lookup_numbers(answer: Result<Answered, LookupRefusal>) -> [u32; 4]
+    requires { Narrow (lookup_numbers (lookup.result_of answer)) }
+    ensures { result ≡ lookup_numbers (lookup.result_of answer) }
 {
     match answer {
-        LookupAnswer::Refused(r) => put_four(res, 2, refusal_number(r) as u32, ABSENT, 0),
-        LookupAnswer::ShortIndex => put_four(res, 2, 7, ABSENT, 0),
-        LookupAnswer::Answered(a) => {
-            let target = a.target;
-            put_target(res, target, a.entries as u32)
-        }
+        Ok(a) => target_numbers(a.target, a.entries as u32),
+        Err(refusal) => [2, refusal.number() as u32, ABSENT, 0],
     }
 }
 
@@ -144,6 +98,6 @@ pub fn qaabireed_lookup(file: &[u8], index: &mut [u32], target: &[u8], res: &mut
         return RESULT_TOO_SHORT;
     }
     let answer = lookup(file, index, target);
-    put_lookup(res, answer);
+    put(res, &lookup_numbers(answer));
     OK
 }

@@ -23,6 +23,11 @@ module _ {out : List ℕ} {i : ℕ} (so_far : Cleared out i) where
       let n : i ≡ length before = sym (ap length all ∙ length-replicate i 0) ∙ same in
       all ∙ rw n
 
+-- 0 in every slot, as `fill` leaves them
+pub filled : (before : List ℕ) {after : List ℕ} → after ≡ replicate (length before) 0 → after ≡ cleared before
+unfolding cleared
+filled before e = e
+
 -- of as many numbers as many 0s are left
 pub cleared-alike : (a b : List ℕ) → length a ≡ length b → cleared a ≡ cleared b
 unfolding cleared

@@ -1,10 +1,11 @@
 -- What a walk keeps: it counts the records that it meets and those that are not plain, and writes the numbers of these. Assumes nothing.
+use Rattle.std.specs.Prelude.{Result}
+use Rattle.fields.specs.declared.Refusal.{Refusal}
 use Rattle.std.proofs.Common.{◌≡◌, ℕ, zero, suc, ◌+◌, ◌%◌, ◌^◌, ◌<◌, ◌≤◌, Bool, true, false, List, [], ◌∷◌, length, set, refl, ap, ◌∙◌, subst, add-zero, arith, length-set, take-append-drop, take_all}
 use Rattle.fields.specs.declared.Role.{Role}
 use Rattle.fields.specs.Bytes.{pick}
 use Rattle.records.specs.Trace.{Trace, done, refuse, emit, met, Ending, well, refused, ends}
 use Rattle.records.specs.Items.{plain, is, Item, item_of}
-use Rattle.records.specs.declared.Walk.{Walk}
 use Rattle.records.specs.Numbers.{number_of, kept_numbers}
 use Rattle.records.specs.Buffers.{fill}
 use Rattle.records.specs.Work.{Ran, ended, broke, St, st, run, counts, keep, keeping, walk_of, Written, Told, walked, items_of, Walked}
@@ -100,7 +101,7 @@ fill-length k (x ∷ xs) out = ap length (fill-next k x xs out) ∙ fill-length 
 
 -- 5. What a walk answers and writes, after k records kept and m met
 
-pub walked_all : (t : Trace) (base k m : ℕ) {w : Walk} {before after : List ℕ} → k + length (items_of base t) < 4294967296 → m + length (items_of base t) < 4294967296
+pub walked_all : (t : Trace) (base k m : ℕ) {w : Result ℕ Refusal} {before after : List ℕ} → k + length (items_of base t) < 4294967296 → m + length (items_of base t) < 4294967296
     → Told (run keeping base (st before (counts k m)) t) w after → Walked t base k m before w after
 unfolding ran walk_of Written walked
 walked_all t base k m {before = before} {after = after} p q h =

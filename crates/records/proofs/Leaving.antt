@@ -1,8 +1,8 @@
 -- Nodes that leave, and the bit for it in the number of a choice, which is kept before its nodes are read. Assumes nothing.
+use Rattle.std.specs.Prelude.{Result, Ok}
+use Rattle.fields.specs.declared.Refusal.{Refusal}
 use Rattle.std.proofs.Common.{◌≡◌, ℕ, zero, suc, ◌+◌, ◌-◌, ◌%◌, ◌^◌, ◌<◌, ◌≤◌, Bool, true, false, eqb, List, [], ◌∷◌, length, get_or, take, drop, set, sym, refl, ap, ◌∙◌, arith, length-drop, length-set, get_or-set_other}
 use lib.Seq.{set_comm}
-use Rattle.fields.specs.declared.HeadRead.{HeadRead}
-use Rattle.fields.specs.declared.HeadRead.TheVariants as head_read
 use Rattle.fields.specs.declared.Body.{Body}
 use Rattle.fields.specs.Bytes.{Head, pick, head_of, read_of_head}
 use Rattle.fields.proofs.Laws.{head-to, to_end}
@@ -46,14 +46,14 @@ left_end {sofar = sofar} {rest = []} left p = sym left.decides
 left_end {rest = x ∷ rest} left p = absurd (omega arith)
 
 -- a record more
-module _ {s : List ℕ} {sofar : Bool} {rest : List ℕ} (left : Left s sofar rest) {h : HeadRead} (read : h ≡ read_of_head (head_of rest)) where
-  one_more : (kind to n : ℕ) → h ≡ head_read.To kind to → ending_n (suc n) sofar rest ≡ ending_n n (pick (eqb kind 1) sofar (leaving kind)) (drop to rest)
+module _ {s : List ℕ} {sofar : Bool} {rest : List ℕ} (left : Left s sofar rest) {h : Result (ℕ × ℕ) Refusal} (read : h ≡ read_of_head (head_of rest)) where
+  one_more : (kind to n : ℕ) → h ≡ Ok (kind, to) → ending_n (suc n) sofar rest ≡ ending_n n (pick (eqb kind 1) sofar (leaving kind)) (drop to rest)
   unfolding ending_n ending_at
   one_more kind to n e =
       let piece = head-to (head_of rest) read kind to e in
       rw piece.0 (ap (λ i. ending_n n (pick (eqb kind 1) sofar (leaving kind)) (drop i rest)) piece.1)
 
-  pub left-next : (kind to : ℕ) → h ≡ head_read.To kind to → {after : Bool} → after ≡ pick (eqb kind 1) sofar (leaving kind)
+  pub left-next : (kind to : ℕ) → h ≡ Ok (kind, to) → {after : Bool} → after ≡ pick (eqb kind 1) sofar (leaving kind)
       → Left s after (take (length rest - to) (drop to rest))
   left-next kind to e l = record {
     decides =

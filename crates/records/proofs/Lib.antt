@@ -10,5 +10,6 @@ pub mod Places
 pub mod Keeping
 pub mod Leaving
 pub mod Choices
+pub mod Fits
 pub mod Clearing
 pub mod Moved

@@ -1,10 +1,10 @@
 -- The sorts of records as tables, and a record as it is kept. Assumes nothing.
+use Rattle.std.specs.Prelude.{Option, None}
+use Rattle.fields.specs.declared.Body.{Body}
 use Rattle.std.proofs.Common.{◌≡◌, ℕ, ◌+◌, ◌*◌, ◌%◌, ◌^◌, ◌<◌, ◌≤◌, Bool, true, false, eqb, List, [], ◌∷◌, length, get_or, set, sym, refl, ap, arith, get_or-set_same, set-set, ne_eqb}
 use lib.Seq.{set_out}
 use Rattle.fields.specs.declared.Role.{Role}
 use Rattle.fields.specs.declared.Role.TheVariants.{Node, Branch, Cond, Visited, Argument, Unvisited}
-use Rattle.fields.specs.declared.Kinded.{Kinded}
-use Rattle.fields.specs.declared.Kinded.TheVariants as kinded
 use Rattle.fields.specs.Bytes.{pick}
 use Rattle.fields.specs.Kinds.{kind_of, node_kinds, node_kind, cond_kinds, cond_kind, expr_kinds, expr_kind}
 use Rattle.records.specs.Items.{Kind, plain, temp, divert, tunnel, thread, call, variable, argument, choice, gather, parameter, stitch_name, flow_start, code, assigned, node_sorts, cond_sorts, expr_sorts, argument_sorts, sort_of, labelled, in_branch, leaves, what_of, item_as, item_of}
@@ -34,17 +34,17 @@ pub argument-plain : (kind : ℕ) → Misses plain ((2, argument) ∷ []) kind �
 argument-plain kind h = sym (ap code (missed plain 3 ((2, argument) ∷ []) kind h))
 
 -- a test of kinds beside sorts passes for every record where it passes along the tables, and where there is no such kind
-module _ (test : Kinded → Kind → Bool) (none : (k : Kind) → test kinded.None k ≡ true) (nodes : (x : Bool) → all-pairs test plain node_kinds (sorts-by x) ≡ true)
+module _ (test : Option Body → Kind → Bool) (none : (k : Kind) → test None k ≡ true) (nodes : (x : Bool) → all-pairs test plain node_kinds (sorts-by x) ≡ true)
     (conds : all-pairs test plain cond_kinds cond_sorts ≡ true) (exprs : all-pairs test plain (expr_kinds Visited) expr_sorts ≡ true)
     (arguments : all-pairs test plain (expr_kinds Unvisited) argument_sorts ≡ true) (others : all-pairs test plain (expr_kinds Unvisited) [] ≡ true) where
   pub every-kind : (role : Role) (kind : ℕ) (payload : List ℕ) → test (kind_of role kind) (sort_of role kind payload) ≡ true
   unfolding kind_of node_kind cond_kind expr_kind sort_of
-  every-kind Node kind payload = pairs-at test kinded.None plain none node_kinds (node_sorts payload) (nodes (eqb (get_or payload 0 0) 1)) kind
-  every-kind Branch kind payload = pairs-at test kinded.None plain none node_kinds (node_sorts payload) (nodes (eqb (get_or payload 0 0) 1)) kind
-  every-kind Cond kind payload = pairs-at test kinded.None plain none cond_kinds cond_sorts conds kind
-  every-kind Visited kind payload = pairs-at test kinded.None plain none (expr_kinds Visited) expr_sorts exprs kind
-  every-kind Argument kind payload = pairs-at test kinded.None plain none (expr_kinds Unvisited) argument_sorts arguments kind
-  every-kind Unvisited kind payload = pairs-at test kinded.None plain none (expr_kinds Unvisited) [] others kind
+  every-kind Node kind payload = pairs-at test None plain none node_kinds (node_sorts payload) (nodes (eqb (get_or payload 0 0) 1)) kind
+  every-kind Branch kind payload = pairs-at test None plain none node_kinds (node_sorts payload) (nodes (eqb (get_or payload 0 0) 1)) kind
+  every-kind Cond kind payload = pairs-at test None plain none cond_kinds cond_sorts conds kind
+  every-kind Visited kind payload = pairs-at test None plain none (expr_kinds Visited) expr_sorts exprs kind
+  every-kind Argument kind payload = pairs-at test None plain none (expr_kinds Unvisited) argument_sorts arguments kind
+  every-kind Unvisited kind payload = pairs-at test None plain none (expr_kinds Unvisited) [] others kind
 
 -- 2. The numbers of sorts and tests are small
 

@@ -1,5 +1,7 @@
 -- Where the records of a reading stand: their places rise, they lie within the bytes read, and the bytes at their places are theirs.
 -- Each holds of all bytes, damaged ones too. Assumes nothing.
+use Rattle.std.specs.Prelude.{Result, Option, Ok, Err, Some, None}
+use Rattle.fields.specs.declared.Refusal.{Refusal}
 use Rattle.std.proofs.Common.{◌≡◌, ℕ, zero, suc, ◌+◌, ◌-◌, ◌<◌, ◌≤◌, Bool, true, false, ltb, ◌⊎◌, List, [], ◌∷◌, length, take, drop, sym, refl, ap, subst, inl, inr, add_assoc, arith, length-drop, length-take, take-take, drop-drop}
 use mathlib.Core.List.Memᴰ
 use mathlib.Core.List.{Memᴰ}
@@ -11,10 +13,6 @@ use Rattle.fields.specs.declared.Role.{Role}
 use Rattle.fields.specs.declared.Role.TheVariants.{Node, Branch, Cond, Visited}
 use Rattle.fields.specs.declared.Body.{Body}
 use Rattle.fields.specs.declared.Body.TheVariants as body
-use Rattle.fields.specs.declared.FlagRead.{FlagRead}
-use Rattle.fields.specs.declared.FlagRead.TheVariants as flag
-use Rattle.fields.specs.declared.Kinded.{Kinded}
-use Rattle.fields.specs.declared.Kinded.TheVariants as kinded
 use Rattle.fields.specs.Bytes.{Head, Span, pick, head_of, list_of, name_of, flag_of}
 use Rattle.fields.specs.Kinds.{kind_of}
 use Rattle.fields.proofs.Laws.{head-fits, list-fits, name-fits, off-fits, on_fits, head-take}
@@ -158,10 +156,10 @@ pub flagged-places : (j k : Reading) → Places j → Places k → Places (flagg
 unfolding flagged_at Placed
 flagged-places j k g h s = by_flag (flag_of s) refl
   where
-    by_flag : (x : FlagRead) → flag_of s ≡ x → Placed s 0 (length s) (flagged_at x j k s)
-    by_flag flag.Off e = placed-wider s (shift 1 (j (drop 1 s))) (omega arith) (omega arith) (rest-placed 1 s j g (off-fits s refl e))
-    by_flag flag.On e = placed-wider s (shift 1 (k (drop 1 s))) (omega arith) (omega arith) (rest-placed 1 s k h (on_fits s refl e))
-    by_flag (flag.Refused r) e = tt
+    by_flag : (x : Result Bool Refusal) → flag_of s ≡ x → Placed s 0 (length s) (flagged_at x j k s)
+    by_flag (Ok false) e = placed-wider s (shift 1 (j (drop 1 s))) (omega arith) (omega arith) (rest-placed 1 s j g (off-fits s refl e))
+    by_flag (Ok true) e = placed-wider s (shift 1 (k (drop 1 s))) (omega arith) (omega arith) (rest-placed 1 s k h (on_fits s refl e))
+    by_flag (Err r) e = tt
 
 moded-places : (k : Reading) → Places k → Places (moded k)
 unfolding moded Placed
@@ -202,24 +200,24 @@ module _ (f : Role → Reader) (g : (r : Role) → PlacesRecord (f r)) where
   body-places body.Assign s = moded-places (named (exact 1 (f Visited))) (named-places (exact 1 (f Visited)) (exact-places 1 (f Visited) (g Visited))) s
   body-places body.Choice s = flagged-places (options f) (named (options f)) options-places (named-places (options f) options-places) s
 
-  whole-places : (x : Kinded) (role : Role) → PlacesRecord (whole x f role)
+  whole-places : (x : Option Body) (role : Role) → PlacesRecord (whole x f role)
   unfolding whole Placed
-  whole-places (kinded.Known b) role s kind n e =
+  whole-places (Some b) role s kind n e =
       let fits : 5 + n ≤ length s = head-fits s kind n refl e in
       let long : length (take n (drop 5 s)) ≡ n = omega (arith, length-take n (drop 5 s), length-drop 5 s) in (
         omega arith,
         record { head = rw (long, e); behind = rw long },
         placed-wider s (shift 5 (body_of b f (take n (drop 5 s)))) (omega arith) (omega arith) (part_placed 5 n s (body_of b f) (body-places b) fits),
       )
-  whole-places kinded.None role s kind n e = tt
+  whole-places None role s kind n e = tt
 
 record-places : (left : ℕ) (role : Role) → PlacesRecord (record_of left role)
 unfolding record_of too_deep Placed
 record-places zero role s kind n e = by_kind (kind_of role kind)
   where
-    by_kind : (x : Kinded) → Placed s 0 (5 + n) (too_deep x)
-    by_kind (kinded.Known b) = tt
-    by_kind kinded.None = tt
+    by_kind : (x : Option Body) → Placed s 0 (5 + n) (too_deep x)
+    by_kind (Some b) = tt
+    by_kind None = tt
 record-places (suc left) role s kind n e = whole-places (record_of left) (record-places left) (kind_of role kind) role s kind n e
 
 pub nodes-places : Places nodes

@@ -1,9 +1,9 @@
 -- Laws of readings: pieces to the end, and a piece with what follows it. Assumes nothing.
+use Rattle.std.specs.Prelude.{Result, Ok, Err, true, false, Bool}
+use Rattle.fields.specs.declared.Refusal.{Refusal}
 use Rattle.std.proofs.Common.{◌≡◌, ℕ, zero, suc, ◌+◌, ◌-◌, ◌<◌, ◌≤◌, List, [], ◌∷◌, length, take, drop, sym, refl, ap, sub-one, arith, length-drop, drop-drop}
 use Rattle.fields.specs.declared.Role.{Role}
 use Rattle.fields.specs.declared.Role.TheVariants.{Branch, Visited}
-use Rattle.fields.specs.declared.FlagRead.{FlagRead}
-use Rattle.fields.specs.declared.FlagRead.TheVariants as flag
 use Rattle.fields.specs.Bytes.{Head, Span, head_of, read_of_head, list_of, span_reach, flag_of}
 use Rattle.records.specs.Trace.{done, and_then, shift}
 use Rattle.records.specs.Grammar.{Reading, Reader, front_at, front, nothing, repeat_n, repeat, exact, ending, records, piece_at, piece, listed, flagged_at, tested, branch}
@@ -39,11 +39,11 @@ branch-local f s j k e = by_flag (flag_of s)
     in_list : (a : ℕ) → listed (f Branch) j (drop a (drop 1 s)) ≡ listed (f Branch) k (drop a (drop 1 s))
     in_list a = piece-local (records (f Branch)) (drop a (drop 1 s)) j k (λ c h. rw (drop-drop a 1 s, drop-drop c (1 + a) s) (e (1 + a + c) (omega arith)))
 
-    by_flag : (x : FlagRead) → flagged_at x (listed (f Branch) j) (front (f Visited) (listed (f Branch) j)) s
+    by_flag : (x : Result Bool Refusal) → flagged_at x (listed (f Branch) j) (front (f Visited) (listed (f Branch) j)) s
         ≡ flagged_at x (listed (f Branch) k) (front (f Visited) (listed (f Branch) k)) s
-    by_flag flag.Off = ap (shift 1) (in_list 0)
-    by_flag flag.On = ap (shift 1) (front-local (f Visited) (drop 1 s) (listed (f Branch) j) (listed (f Branch) k) (λ a h. in_list a))
-    by_flag (flag.Refused r) = refl
+    by_flag (Ok false) = ap (shift 1) (in_list 0)
+    by_flag (Ok true) = ap (shift 1) (front-local (f Visited) (drop 1 s) (listed (f Branch) j) (listed (f Branch) k) (λ a h. in_list a))
+    by_flag (Err r) = refl
 
 -- as many pieces as there are bytes are enough
 enough : (g : Reading → Reading) → Local g → (n m : ℕ) (s : List ℕ) → length s ≤ n → length s ≤ m → repeat_n n g s ≡ repeat_n m g s
@@ -97,13 +97,13 @@ tested-then : (f : Role → Reader) (k : Reading) (s : List ℕ) → tested f k 
 unfolding tested flagged_at test_end_of
 tested-then f k s = by_flag (flag_of s)
   where
-    by_flag : (x : FlagRead) → flagged_at x k (front (f Visited) k) s
+    by_flag : (x : Result Bool Refusal) → flagged_at x k (front (f Visited) k) s
         ≡ and_then (flagged_at x nothing (front (f Visited) nothing) s) (shift (test_end_of x s) (k (drop (test_end_of x s) s)))
-    by_flag flag.Off = rw (shift-done 1) (sym (done-then (shift 1 (k (drop 1 s)))))
-    by_flag flag.On =
+    by_flag (Ok false) = rw (shift-done 1) (sym (done-then (shift 1 (k (drop 1 s)))))
+    by_flag (Ok true) =
         let n = head_end (drop 1 s) in
         rw (front-then (f Visited) k (drop 1 s) (head_of (drop 1 s)), shift-then 1 (front (f Visited) nothing (drop 1 s)) (shift n (k (drop n (drop 1 s)))), shift-shift 1 n (k (drop n (drop 1 s))), drop-drop n 1 s)
-    by_flag (flag.Refused r) = sym (refuse-then r (shift 0 (k (drop 0 s))))
+    by_flag (Err r) = sym (refuse-then r (shift 0 (k (drop 0 s))))
 
 -- a branch is its test, then its list and the rest
 pub branch-tested : (f : Role → Reader) (k : Reading) (s : List ℕ) → branch f k s ≡ and_then (tested f nothing s) (shift (test_end s) (listed (f Branch) k (drop (test_end s) s)))

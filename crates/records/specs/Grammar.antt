@@ -1,14 +1,11 @@
 -- The grammar of records: nodes, expressions and conditions.
-use Rattle.std.specs.Prelude.{ℕ, zero, suc, ◌+◌, List, [], ◌∷◌, length, take, drop, nat_lt}
+use Rattle.fields.specs.declared.Refusal.{Refusal}
+use Rattle.std.specs.Prelude.{ℕ, zero, suc, ◌+◌, List, [], ◌∷◌, length, take, drop, nat_lt, Result, Option, Ok, Err, Some, None, true, false, Bool}
 use Rattle.fields.specs.declared.Refusal.TheVariants.{Short, Unknown, Deep}
-use Rattle.fields.specs.declared.FlagRead.{FlagRead}
-use Rattle.fields.specs.declared.FlagRead.TheVariants as flag
 use Rattle.fields.specs.declared.Role.{Role}
 use Rattle.fields.specs.declared.Role.TheVariants.{Node, Branch, Cond, Visited}
 use Rattle.fields.specs.declared.Body.{Body}
 use Rattle.fields.specs.declared.Body.TheVariants as body
-use Rattle.fields.specs.declared.Kinded.{Kinded}
-use Rattle.fields.specs.declared.Kinded.TheVariants as kinded
 use Rattle.fields.specs.Bytes.{Head, Span, pick, head_of, list_of, name_of, flag_of}
 use Rattle.fields.specs.Kinds.{kind_of}
 use Rattle.records.specs.Trace.{Trace, done, refuse, emit, and_then, shift}
@@ -81,10 +78,10 @@ abbrev pub named : Reading → Reading
 named k s = named_at (name_of s) k s
 
 -- the flag at the front, then what follows it: by j where it is off, by k where it is on
-unfoldable pub flagged_at : FlagRead → Reading → Reading → Reading
-flagged_at flag.Off j k s = shift 1 (j (drop 1 s))
-flagged_at flag.On j k s = shift 1 (k (drop 1 s))
-flagged_at (flag.Refused r) j k s = refuse r
+unfoldable pub flagged_at : Result Bool Refusal → Reading → Reading → Reading
+flagged_at (Ok false) j k s = shift 1 (j (drop 1 s))
+flagged_at (Ok true) j k s = shift 1 (k (drop 1 s))
+flagged_at (Err r) j k s = refuse r
 
 -- the same, by the flag that the bytes have
 abbrev pub flagged : Reading → Reading → Reading
@@ -131,14 +128,14 @@ body_of body.Assign f s = moded (named (exact 1 (f Visited))) s
 body_of body.Choice f s = flagged (options f) (named (options f)) s
 
 -- a record of this kind: itself, then its payload
-unfoldable pub whole : Kinded → (Role → Reader) → Role → Reader
-whole (kinded.Known b) f role kind s = emit role kind 0 s (shift 5 (body_of b f s))
-whole kinded.None f role kind s = refuse Unknown
+unfoldable pub whole : Option Body → (Role → Reader) → Role → Reader
+whole (Some b) f role kind s = emit role kind 0 s (shift 5 (body_of b f s))
+whole None f role kind s = refuse Unknown
 
 -- a kind is judged before the depth
-unfoldable pub too_deep : Kinded → Trace
-too_deep (kinded.Known b) = refuse Deep
-too_deep kinded.None = refuse Unknown
+unfoldable pub too_deep : Option Body → Trace
+too_deep (Some b) = refuse Deep
+too_deep None = refuse Unknown
 
 -- a record, with so many levels left
 unfoldable pub record_of : ℕ → Role → Reader

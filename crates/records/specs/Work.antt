@@ -1,27 +1,14 @@
 -- Inner contract. A walk as it goes: the buffer, how many records were kept and met so far, the bit of a choice that leaves, and the places after pieces.
-use Rattle.std.specs.Prelude.{◌≡◌, ℕ, ◌+◌, ◌*◌, ◌%◌, ◌^◌, Bool, true, false, ◌&&◌, List, [], ◌∷◌, map, length, drop, slice_index, slice_set}
+use Rattle.std.specs.Prelude.{◌≡◌, ℕ, ◌+◌, ◌*◌, ◌%◌, ◌^◌, Bool, true, false, ◌&&◌, List, [], ◌∷◌, map, length, drop, slice_index, slice_set, Result, Ok, Err, Some}
 use Rattle.fields.specs.declared.Refusal.{Refusal}
 use Rattle.fields.specs.declared.Refusal.TheVariants.{Short}
 use Rattle.fields.specs.declared.Role.{Role}
 use Rattle.fields.specs.declared.Body.{Body}
 use Rattle.fields.specs.declared.Body.TheVariants as body
-use Rattle.fields.specs.declared.Kinded.TheVariants.{Known}
 use Rattle.fields.specs.Kinds.{kind_of}
-use Rattle.fields.specs.declared.Reach.{Reach}
-use Rattle.fields.specs.declared.Reach.TheVariants as reach
-use Rattle.fields.specs.declared.HeadRead.{HeadRead}
-use Rattle.fields.specs.declared.HeadRead.TheVariants as head_read
-use Rattle.fields.specs.declared.FlagRead.{FlagRead}
-use Rattle.fields.specs.declared.FlagRead.TheVariants as flag
 use Rattle.fields.specs.Bytes.{pick, head_of, read_of_head, list_of, name_of, span_reach, flag_of}
 use Rattle.records.specs.Trace.{Trace, done, refuse, emit, met, Ending, well, refused, ends}
 use Rattle.records.specs.Items.{plain, code, is, Item, sort_of, item_of, choice_body, end_with_divert}
-use Rattle.records.specs.declared.PieceRead.{PieceRead}
-use Rattle.records.specs.declared.PieceRead.TheVariants as piece-read
-use Rattle.records.specs.declared.NodesRead.{NodesRead}
-use Rattle.records.specs.declared.NodesRead.TheVariants as nodes-read
-use Rattle.records.specs.declared.Walk.{Walk}
-use Rattle.records.specs.declared.Walk.TheVariants as walk
 use Rattle.records.specs.Numbers.{number_of, kept_numbers}
 use Rattle.records.specs.Buffers.{fill}
 
@@ -69,9 +56,9 @@ unfoldable pub keeping : Visitor St
 keeping s role kind place bs = keep s (item_of (record { role = role; kind = kind; place = place; payload = bs }))
 
 -- the answer
-unfoldable pub walk_of : Ran St → Walk
-walk_of (ended s) = walk.Done s.n
-walk_of (broke s r) = walk.Refused r
+unfoldable pub walk_of : Ran St → Result ℕ Refusal
+walk_of (ended s) = Ok s.n
+walk_of (broke s r) = Err r
 
 -- the buffer at the end: where reading was refused, nothing is said of it but its length
 unfoldable pub Written : Ran St → List ℕ → Type 0
@@ -79,50 +66,50 @@ Written (ended s) o = o ≡ s.out
 Written (broke s r) o = length o ≡ length s.out
 
 -- an answer and what was written are those of x
-pub record Told (x : Ran St) (w : Walk) (o : List ℕ) : Type 0 where
+pub record Told (x : Ran St) (w : Result ℕ Refusal) (o : List ℕ) : Type 0 where
   pub answer : w ≡ walk_of x
   pub written : Written x o
 
 -- the answer of a walk, with the place after what it read
-unfoldable pub piece_of : ℕ → Walk → PieceRead
-piece_of to (walk.Done n) = piece-read.To to n
-piece_of to (walk.Refused r) = piece-read.Refused r
+unfoldable pub piece_of : ℕ → Result ℕ Refusal → Result (ℕ × ℕ) Refusal
+piece_of to (Ok n) = Ok (to, n)
+piece_of to (Err r) = Err r
 
 -- an answer with a place and what was written are those of x, which reads to the place
-pub record ToldTo (x : Ran St) (to : ℕ) (a : PieceRead) (o : List ℕ) : Type 0 where
+pub record ToldTo (x : Ran St) (to : ℕ) (a : Result (ℕ × ℕ) Refusal) (o : List ℕ) : Type 0 where
   pub answer : a ≡ piece_of to (walk_of x)
   pub written : Written x o
 
 -- the place after a piece that begins so many bytes on
-unfoldable pub reach_after : ℕ → Reach → Reach
-reach_after a (reach.To e) = reach.To (a + e)
-reach_after a (reach.Refused r) = reach.Refused r
+unfoldable pub reach_after : ℕ → Result ℕ Refusal → Result ℕ Refusal
+reach_after a (Ok e) = Ok (a + e)
+reach_after a (Err r) = Err r
 
 -- the place after the label of a choice, a flag and a name if it is 1
-unfoldable pub label_reach_of : FlagRead → List ℕ → Reach
-label_reach_of flag.Off s = reach.To 1
-label_reach_of flag.On s = reach_after 1 (span_reach 1 (name_of (drop 1 s)))
-label_reach_of (flag.Refused r) s = reach.Refused r
+unfoldable pub label_reach_of : Result Bool Refusal → List ℕ → Result ℕ Refusal
+label_reach_of (Ok false) s = Ok 1
+label_reach_of (Ok true) s = reach_after 1 (span_reach 1 (name_of (drop 1 s)))
+label_reach_of (Err r) s = Err r
 
 -- the same, by the flag that the bytes have
-abbrev pub label_reach : List ℕ → Reach
+abbrev pub label_reach : List ℕ → Result ℕ Refusal
 label_reach s = label_reach_of (flag_of s) s
 
 -- the answer of a walk over the nodes of a choice, by whether they leave
-unfoldable pub nodes_of : Bool → Walk → NodesRead
-nodes_of leaves (walk.Done n) = nodes-read.Done n leaves
-nodes_of leaves (walk.Refused r) = nodes-read.Refused r
+unfoldable pub nodes_of : Bool → Result ℕ Refusal → Result (ℕ × Bool) Refusal
+nodes_of leaves (Ok n) = Ok (n, leaves)
+nodes_of leaves (Err r) = Err r
 
 -- an answer with whether the nodes leave, and what was written, are those of x
-pub record ToldNodes (x : Ran St) (leaves : Bool) (a : NodesRead) (o : List ℕ) : Type 0 where
+pub record ToldNodes (x : Ran St) (leaves : Bool) (a : Result (ℕ × Bool) Refusal) (o : List ℕ) : Type 0 where
   pub answer : a ≡ nodes_of leaves (walk_of x)
   pub written : Written x o
 
 -- that answer, with nothing left behind
-unfoldable pub nodes_end : NodesRead → List ℕ → NodesRead
+unfoldable pub nodes_end : Result (ℕ × Bool) Refusal → List ℕ → Result (ℕ × Bool) Refusal
 nodes_end a [] = a
-nodes_end (nodes-read.Done n leaves) (x ∷ s) = nodes-read.Refused Short
-nodes_end (nodes-read.Refused r) (x ∷ s) = nodes-read.Refused r
+nodes_end (Ok (n, leaves)) (x ∷ s) = Err Short
+nodes_end (Err r) (x ∷ s) = Err r
 
 -- the payload is a choice's
 unfoldable pub is_choice : Body → Bool
@@ -153,24 +140,24 @@ put_leaves true n out = leaves_at (last_slot n) out
 put_leaves false n out = out
 
 -- the answer of a choice, by that of its nodes
-unfoldable pub nodes_walk : NodesRead → Walk
-nodes_walk (nodes-read.Done n leaves) = walk.Done n
-nodes_walk (nodes-read.Refused r) = walk.Refused r
+unfoldable pub nodes_walk : Result (ℕ × Bool) Refusal → Result ℕ Refusal
+nodes_walk (Ok (n, leaves)) = Ok n
+nodes_walk (Err r) = Err r
 
 -- the buffer after a choice, by the answer of its nodes and the counts before its conditions and nodes
-unfoldable pub nodes_put : NodesRead → ℕ → List ℕ → List ℕ
-nodes_put (nodes-read.Done m leaves) n out = put_leaves leaves n out
-nodes_put (nodes-read.Refused r) n out = out
+unfoldable pub nodes_put : Result (ℕ × Bool) Refusal → ℕ → List ℕ → List ℕ
+nodes_put (Ok (m, leaves)) n out = put_leaves leaves n out
+nodes_put (Err r) n out = out
 
 -- the place that the head of a record shows; 0 where it is refused, a place that no answer shows, here and below
-unfoldable pub head_place : HeadRead → ℕ
-head_place (head_read.To kind e) = e
-head_place (head_read.Refused r) = 0
+unfoldable pub head_place : Result (ℕ × ℕ) Refusal → ℕ
+head_place (Ok (kind, e)) = e
+head_place (Err r) = 0
 
 -- the place that a length shows
-unfoldable pub reach_place : Reach → ℕ
-reach_place (reach.To e) = e
-reach_place (reach.Refused r) = 0
+unfoldable pub reach_place : Result ℕ Refusal → ℕ
+reach_place (Ok e) = e
+reach_place (Err r) = 0
 
 -- the place after the record at the front of the bytes
 abbrev pub head_end : List ℕ → ℕ
@@ -181,10 +168,10 @@ abbrev pub list_end : List ℕ → ℕ
 list_end s = reach_place (span_reach 4 (list_of s))
 
 -- the place after the test of a branch, a flag and an expression if it is 1
-unfoldable pub test_end_of : FlagRead → List ℕ → ℕ
-test_end_of flag.Off s = 1
-test_end_of flag.On s = 1 + head_end (drop 1 s)
-test_end_of (flag.Refused r) s = 0
+unfoldable pub test_end_of : Result Bool Refusal → List ℕ → ℕ
+test_end_of (Ok false) s = 1
+test_end_of (Ok true) s = 1 + head_end (drop 1 s)
+test_end_of (Err r) s = 0
 
 -- the same, by the flag that the bytes have
 abbrev pub test_end : List ℕ → ℕ
@@ -195,14 +182,14 @@ abbrev pub branch_end : List ℕ → ℕ
 branch_end s = test_end s + list_end (drop (test_end s) s)
 
 -- what is answered at the end of the bytes
-unfoldable pub end_of : ℕ → List ℕ → Walk
-end_of n [] = walk.Done n
-end_of n (x ∷ s) = walk.Refused Short
+unfoldable pub end_of : ℕ → List ℕ → Result ℕ Refusal
+end_of n [] = Ok n
+end_of n (x ∷ s) = Err Short
 
 -- the counts, or the refusal
-unfoldable pub walked : Ending → ℕ → Walk
-walked well n = walk.Done n
-walked (refused r) n = walk.Refused r
+unfoldable pub walked : Ending → ℕ → Result ℕ Refusal
+walked well n = Ok n
+walked (refused r) n = Err r
 
 -- the items of a trace whose bytes stand at base
 abbrev pub items_of : ℕ → Trace → List Item
@@ -210,7 +197,7 @@ items_of base t = map item_of (met base t)
 
 -- answer and buffer of a walk over t, whose bytes stand at base, where so many records were kept and met before it: the numbers where
 -- reading ended well, and in any case as long as before
-pub record Walked (t : Trace) (base kept all : ℕ) (before : List ℕ) (w : Walk) (after : List ℕ) : Type 0 where
+pub record Walked (t : Trace) (base kept all : ℕ) (before : List ℕ) (w : Result ℕ Refusal) (after : List ℕ) : Type 0 where
   pub answer : w ≡ walked (ends t) (counts (kept + length (kept_numbers (items_of base t))) (all + length (items_of base t)))
   pub written : ends t ≡ well → after ≡ fill kept (kept_numbers (items_of base t)) before
   pub same_length : length after ≡ length before
@@ -218,7 +205,7 @@ pub record Walked (t : Trace) (base kept all : ℕ) (before : List ℕ) (w : Wal
 -- a record of the kind has nothing inside it, and is plain
 pub record BareKind (role : Role) (kind : ℕ) : Type 0 where
   pub inner : Role
-  pub nothing_inside : kind_of role kind ≡ Known (body.Exprs 0 inner)
+  pub nothing_inside : kind_of role kind ≡ Some (body.Exprs 0 inner)
   pub is_plain : (payload : List ℕ) → 0 ≡ code (sort_of role kind payload)
 
 -- a record of the kind, with this place after it from its kind byte on and so many levels left, is nothing but its head, and is plain

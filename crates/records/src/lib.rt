@@ -17,29 +17,8 @@ pub const MET: usize = 4294967296;
 // That a choice leaves, in its number: 64 in the mark (`mark_of` of specs/Numbers).
 pub const LEAVES: u32 = 67108864;
 
-// How a walk ends: read through, with the counts of records kept and met as one number; or refused.
-#[derive(Clone, Copy)]
-pub enum Walk {
-    Done(usize),
-    Refused(Refusal),
-}
-
-// The place after a piece that was read, and the counts with its records; or the refusal.
-#[derive(Clone, Copy)]
-pub enum PieceRead {
-    To(usize, usize),
-    Refused(Refusal),
-}
-
-// The counts after the nodes of a choice that were read, and whether they leave: the last that is no Newline is a divert or a return; or the refusal.
-#[derive(Clone, Copy)]
-pub enum NodesRead {
-    Done(usize, bool),
-    Refused(Refusal),
-}
-
 // The nodes of a root, a flow or a stitch, which stand at base, after so many records kept and met.
-pub fn walk_nodes(s: &[u8], base: usize, out: &mut [u32], n: usize) -> Walk
+pub fn walk_nodes(s: &[u8], base: usize, out: &mut [u32], n: usize) -> Result<usize, Refusal>
     requires { base + length s.now < 2 ^ 20 }
     ensures { Told (run keeping base (st out.old n) (nodes s.now)) result out.new }
 {

@@ -1,4 +1,5 @@
 -- A node is directly in a branch of kind 8 or 9 where the grammar hands it the role of one: `in-branch`. Assumes nothing.
+use Rattle.std.specs.Prelude.{Option, Some, None}
 use mathlib.Core.Path.{◌≡◌, refl, sym, ◌∙◌}
 use mathlib.Core.Bool.{Bool, true, false}
 use mathlib.Core.List.Memᴰ
@@ -16,8 +17,6 @@ use Rattle.fields.specs.declared.Role.{Role}
 use Rattle.fields.specs.declared.Role.TheVariants.{Node, Branch, Cond, Visited, Argument, Unvisited}
 use Rattle.fields.specs.declared.Body.{Body}
 use Rattle.fields.specs.declared.Body.TheVariants as body
-use Rattle.fields.specs.declared.Kinded.{Kinded}
-use Rattle.fields.specs.declared.Kinded.TheVariants.{Known, None}
 use Rattle.fields.specs.Kinds.{expr_kinds, expr_kind, cond_kinds, cond_kind, node_kinds, node_kind, kind_of}
 use Rattle.names.specs.Words.{◌∈◌}
 use Rattle.names.proofs.Means.{Means}
@@ -119,7 +118,7 @@ reaches-refused x u = record {
   direct = λ e b r m. let z : ◌≡◌ {A = ℕ} 0 1 = cc in absurd (omega arith);
 }
 
-reaches-one : (role : Role) (kind : ℕ) (s : List ℕ) (c : Body) (t : Trace) → kind_of role kind ≡ Known c → Reaches t (body_of c alone s)
+reaches-one : (role : Role) (kind : ℕ) (s : List ℕ) (c : Body) (t : Trace) → kind_of role kind ≡ Some c → Reaches t (body_of c alone s)
     → Reaches (emit role kind 0 s (shift 5 t)) (emit role kind 0 s done)
 unfolding ends met Within
 reaches-one role kind s c t known h = record { ends-too = λ e. refl; direct = λ e b r m. by_cases b r (sym (ends-shift 5 t) ∙ e) (Memᴰ.cases_cons m) }
@@ -139,14 +138,14 @@ record-reaches : (left : ℕ) (role : Role) (kind : ℕ) (s : List ℕ) → Reac
 unfolding record_of too_deep whole
 record-reaches zero role kind s = by_kind (kind_of role kind)
   where
-    by_kind : (x : Kinded) → Reaches (too_deep x) (alone role kind s)
-    by_kind (Known c) = reaches-refused _ (alone role kind s)
+    by_kind : (x : Option Body) → Reaches (too_deep x) (alone role kind s)
+    by_kind (Some c) = reaches-refused _ (alone role kind s)
     by_kind None = reaches-refused _ (alone role kind s)
 record-reaches (suc left) role kind s = by_kind (kind_of role kind) refl (λ c. body-holds Reached reached (record_of left) alone c (λ r h. record-reaches left r) s)
   where
-    by_kind : (x : Kinded) → kind_of role kind ≡ x → ((c : Body) → Reaches (body_of c (record_of left) s) (body_of c alone s))
+    by_kind : (x : Option Body) → kind_of role kind ≡ x → ((c : Body) → Reaches (body_of c (record_of left) s) (body_of c alone s))
         → Reaches (whole x (record_of left) role kind s) (alone role kind s)
-    by_kind (Known c) e h = reaches-one role kind s c (body_of c (record_of left) s) e (h c)
+    by_kind (Some c) e h = reaches-one role kind s c (body_of c (record_of left) s) e (h c)
     by_kind None e h = reaches-refused Unknown (alone role kind s)
 
 -- each record of nodes that end well is directly in their bytes, or directly in a record met there
@@ -157,18 +156,18 @@ met-directly b s good r m = (records-hold Reached reached (record_of 64 Node) (a
 
 -- 3. Only kinds 8 and 9 hand out the role of a branch
 
-hands_branch : Kinded → Bool
-hands_branch (Known (body.Exprs n r)) = in_branch r
-hands_branch (Known body.Single) = false
-hands_branch (Known (body.Call r)) = in_branch r
-hands_branch (Known body.Conditional) = true
-hands_branch (Known body.Switch) = true
-hands_branch (Known body.Sequence) = false
-hands_branch (Known body.Assign) = false
-hands_branch (Known body.Choice) = false
+hands_branch : Option Body → Bool
+hands_branch (Some (body.Exprs n r)) = in_branch r
+hands_branch (Some body.Single) = false
+hands_branch (Some (body.Call r)) = in_branch r
+hands_branch (Some body.Conditional) = true
+hands_branch (Some body.Switch) = true
+hands_branch (Some body.Sequence) = false
+hands_branch (Some body.Assign) = false
+hands_branch (Some body.Choice) = false
 hands_branch None = false
 
-hands-branch : (c : Body) → HandsOut c Branch → hands_branch (Known c) ≡ true
+hands-branch : (c : Body) → HandsOut c Branch → hands_branch (Some c) ≡ true
 unfolding hands_branch in_branch
 hands-branch (body.Exprs n r) h = rw (← h)
 hands-branch body.Single h = absurd h
@@ -221,7 +220,7 @@ unfolding kind_of
 node-kind role kind (inl e) = rw e
 node-kind role kind (inr e) = rw e
 
-branch-nodes : (role : Role) (kind : ℕ) (c : Body) (x : Role) → IsNode role → Branching kind → kind_of role kind ≡ Known c → HandsOut c x → IsNode x → x ≡ Branch
+branch-nodes : (role : Role) (kind : ℕ) (c : Body) (x : Role) → IsNode role → Branching kind → kind_of role kind ≡ Some c → HandsOut c x → IsNode x → x ≡ Branch
 unfolding node_kind
 branch-nodes role kind c x n k known h i = by_kind k
   where

@@ -1,4 +1,6 @@
 -- Rule 11's statements and the tests that compute: a choice is directly in a branch, and its body's last non-Newline leaves. Assumes nothing.
+use Rattle.std.specs.Prelude.{Result, Ok, Err, Some}
+use Rattle.fields.specs.declared.Refusal.{Refusal}
 use mathlib.Core.Path.{◌≡◌, refl, sym, ◌∙◌, ap}
 use mathlib.Core.Bool.{Bool, true, false}
 use mathlib.Core.List.Memᴰ
@@ -13,9 +15,6 @@ use borrow.Author.Tests.{eqb-true}
 use Rattle.fields.specs.declared.Role.{Role}
 use Rattle.fields.specs.declared.Role.TheVariants.{Node, Cond}
 use Rattle.fields.specs.declared.Body.TheVariants as body
-use Rattle.fields.specs.declared.Kinded.TheVariants.{Known}
-use Rattle.fields.specs.declared.FlagRead.{FlagRead}
-use Rattle.fields.specs.declared.FlagRead.TheVariants as flag
 use Rattle.fields.specs.Bytes.{Head, Span, pick, head_of, list_of, name_of, flag_of}
 use Rattle.fields.specs.Kinds.{node_kind, kind_of}
 use Rattle.fields.proofs.Laws.{head-fits, name-count, flag_off, flag-on}
@@ -225,15 +224,15 @@ module _ (f : Role → Reader) (payload : List ℕ) where
   unfolding body_of flagged_at named_at shift ends
   choice-read good = by_flag (flag_of payload) refl
     where
-      by_name : (r : Span) → name_of (drop 1 payload) ≡ r → flag_of payload ≡ flag.On → ChoiceRead f payload
+      by_name : (r : Span) → name_of (drop 1 payload) ≡ r → flag_of payload ≡ (Ok true) → ChoiceRead f payload
       by_name (Span.Bytes n) p e =
           labelled-read (1 + (1 + n)) (drop (1 + n) (drop 1 payload)) (inr (e, (n, p, refl))) (rw (e, p) (shift-shift 1 (1 + n) (options f (drop (1 + n) (drop 1 payload))))) good
       by_name (Span.Refused x) p e = let g = rw (e, p) at good in let z : ◌≡◌ {A = ℕ} 0 1 = cc in absurd (omega arith)
 
-      by_flag : (r : FlagRead) → flag_of payload ≡ r → ChoiceRead f payload
-      by_flag flag.Off e = labelled-read 1 (drop 1 payload) (inl (e, refl)) (rw e) good
-      by_flag flag.On e = by_name (name_of (drop 1 payload)) refl e
-      by_flag (flag.Refused x) e = let g = rw e at good in let z : ◌≡◌ {A = ℕ} 0 1 = cc in absurd (omega arith)
+      by_flag : (r : Result Bool Refusal) → flag_of payload ≡ r → ChoiceRead f payload
+      by_flag (Ok false) e = labelled-read 1 (drop 1 payload) (inl (e, refl)) (rw e) good
+      by_flag (Ok true) e = by_name (name_of (drop 1 payload)) refl e
+      by_flag (Err x) e = let g = rw e at good in let z : ◌≡◌ {A = ℕ} 0 1 = cc in absurd (omega arith)
 
   -- and its body is read well
   pub body-well : ends (body_of body.Choice f payload) ≡ well → ends (records (f Node) (choice_body payload)) ≡ well
@@ -272,7 +271,7 @@ unfolding item_of item_as what_of
 item-branch b s good r m = in-branch b s good r m
 
 -- a choice among the records is read well as one
-choice-known : (role : Role) (kind : ℕ) (payload : List ℕ) → VisitedAs choice role kind payload → kind_of role kind ≡ Known body.Choice
+choice-known : (role : Role) (kind : ℕ) (payload : List ℕ) → VisitedAs choice role kind payload → kind_of role kind ≡ Some body.Choice
 unfolding node_kind
 choice-known role kind payload v = rw (node-kind role kind v.0, v.1)
 

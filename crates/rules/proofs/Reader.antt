@@ -1,4 +1,5 @@
 -- What the rules ask of a reader of files, the reader supplies: `supplied`. Assumes nothing.
+use Rattle.std.specs.Prelude.{Ok}
 use mathlib.Core.Path.{◌≡◌, refl, sym, ◌∙◌, ap₂}
 use mathlib.Core.List.{List, ◌∷◌, map}
 use Prim.Native.Nat.{ℕ, zero, suc, ◌+◌}
@@ -6,12 +7,10 @@ use native.Mathlib.Omega.{arith}
 use lib.Dec.{eqb}
 use lib.ListN.{length, get_or, take, drop}
 use lib.Seq.{get_or-take, drop-drop}
-use Rattle.fields.specs.declared.Reach.TheVariants as reach
 use Rattle.fields.specs.Bytes.{Span, list_of}
 use Rattle.records.specs.Trace.{well, ends}
 use Rattle.records.specs.Grammar as grammar
 use Rattle.story.specs.declared.Sections.{Sections}
-use Rattle.story.specs.declared.Opened.TheVariants as opened
 use Rattle.story.specs.declared.Heading.{Heading}
 use Rattle.story.specs.Story.{words}
 use Rattle.records.specs.Items.{name_in}
@@ -62,7 +61,7 @@ stitch-read at s =
     let e = same-stitch at 0 s in λ i. record { name = e.name i; params = e.params i; marks = e.marks i; body = e.body i }
 
 -- parameters, from their bytes
-params-read : (at p : ℕ) (s : List ℕ) {e : ℕ} → counted_reach s p ≡ reach.To e → words (counted_in at (drop p s)) ≡ words (counted_in 0 (part p e s))
+params-read : (at p : ℕ) (s : List ℕ) {e : ℕ} → counted_reach s p ≡ Ok e → words (counted_in at (drop p s)) ≡ words (counted_in 0 (part p e s))
 params-read at p s to = rw (counted-part 0 p s to) (same-counted at 0 (drop p s))
 
 flow-read : (at : ℕ) (s : List ℕ) → ends (flow s) ≡ well → unplaced_flow (flow_in at s) ≡ flow_read reading (flow_bytes s)
@@ -97,7 +96,7 @@ file-read c s good =
 
 -- 4. What is supplied
 
-module _ (s : List ℕ) (c : Sections) (told : read_of s ≡ opened.At c) where
+module _ (s : List ℕ) (c : Sections) (told : read_of s ≡ Ok c) where
   -- the story and the parts of a readable file are those in its sections
   pub story-told : story_of s ≡ story_in c s
   unfolding story_of story_at

@@ -1,10 +1,8 @@
 -- A file of bytes: when it is readable, the story in it, and its parts in bytes. Assumes nothing.
-use Rattle.std.specs.Prelude.{◌≡◌, List, [], ℕ, ◌-◌, eqb, get_or, take, drop}
+use Rattle.fields.specs.declared.Refusal.{Refusal}
+use Rattle.story.specs.declared.Heading.{Heading}
+use Rattle.std.specs.Prelude.{◌≡◌, List, [], ℕ, ◌-◌, eqb, get_or, take, drop, Result, Ok, Err}
 use Rattle.story.specs.declared.Sections.{Sections}
-use Rattle.story.specs.declared.Opened.{Opened}
-use Rattle.story.specs.declared.Opened.TheVariants as opened
-use Rattle.story.specs.declared.HeadingRead.{HeadingRead}
-use Rattle.story.specs.declared.HeadingRead.TheVariants as heading
 use Rattle.story.specs.Story.{Story, words, whats}
 use Rattle.records.specs.Items.{name_in, items_in}
 use Rattle.story.specs.Headings.{heading_of}
@@ -17,12 +15,12 @@ use Rattle.rules.specs.Files.{FlowBytes, FileBytes, unplaced_stitch, Reading}
 -- none of the refusals 1 to 6 applies: the reader gives the sections
 pub record Readable (file : List ℕ) : Type 0 where
   pub sections : Sections
-  pub told : read_of file ≡ opened.At sections
+  pub told : read_of file ≡ Ok sections
 
 -- the story by how reading ended
-unfoldable pub story_at : Opened → List ℕ → Story
-story_at (opened.At c) file = story_in c file
-story_at (opened.Refused r) file = record { globals = []; externals = []; root = []; flows = [] }
+unfoldable pub story_at : Result Sections Refusal → List ℕ → Story
+story_at (Ok c) file = story_in c file
+story_at (Err r) file = record { globals = []; externals = []; root = []; flows = [] }
 
 -- the story in a file: the empty one where the file is refused
 unfoldable pub story_of : List ℕ → Story
@@ -40,8 +38,8 @@ stitch_bytes s = s
 
 -- a flow by its flag, and from its name on by its heading and its bytes: the name without its count byte, each parameter list with its own,
 -- and the node list without its length. No flow of a readable file is without a heading.
-unfoldable pub flow_parts : List ℕ → HeadingRead → List ℕ → FlowBytes
-flow_parts flag (heading.At h) s = record {
+unfoldable pub flow_parts : List ℕ → Result Heading Refusal → List ℕ → FlowBytes
+flow_parts flag (Ok h) s = record {
   flag = flag;
   name = name_in s;
   params = part h.params h.marks s;
@@ -49,7 +47,7 @@ flow_parts flag (heading.At h) s = record {
   nodes = part h.nodes h.end s;
   stitches = pieces_by stitch_bytes (drop h.end s);
 }
-flow_parts flag (heading.Refused r) s = record { flag = flag; name = []; params = []; marks = []; nodes = []; stitches = [] }
+flow_parts flag (Err r) s = record { flag = flag; name = []; params = []; marks = []; nodes = []; stitches = [] }
 
 -- a flow, without its length: a flag, and then the name and what follows it
 unfoldable pub flow_bytes : List ℕ → FlowBytes
@@ -65,9 +63,9 @@ parts_in c file = record {
 }
 
 -- the parts by how reading ended
-unfoldable pub parts_at : Opened → List ℕ → FileBytes
-parts_at (opened.At c) file = parts_in c file
-parts_at (opened.Refused r) file = record { globals = []; externals = []; root = []; flows = [] }
+unfoldable pub parts_at : Result Sections Refusal → List ℕ → FileBytes
+parts_at (Ok c) file = parts_in c file
+parts_at (Err r) file = record { globals = []; externals = []; root = []; flows = [] }
 
 -- the parts of a file: none where the file is refused
 unfoldable pub parts_of : List ℕ → FileBytes

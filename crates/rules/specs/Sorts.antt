@@ -1,11 +1,9 @@
 -- Which records the steps visit, and as what: by the role that the grammar gives a record, its kind byte and its payload; and rule 11's two statements.
 -- Assumes nothing.
-use Rattle.std.specs.Prelude.{◌≡◌, ◌⊎◌, List, [], ◌∷◌, ◌++◌, ℕ, ◌+◌, get_or, take, drop}
+use Rattle.std.specs.Prelude.{◌≡◌, ◌⊎◌, List, [], ◌∷◌, ◌++◌, ℕ, ◌+◌, get_or, take, drop, Ok, Some, true, false}
 use Rattle.fields.specs.declared.Role.{Role}
 use Rattle.fields.specs.declared.Role.TheVariants.{Node, Branch, Cond, Visited, Argument}
 use Rattle.fields.specs.declared.Body.{Body}
-use Rattle.fields.specs.declared.Kinded.TheVariants.{Known}
-use Rattle.fields.specs.declared.FlagRead.TheVariants as flag
 use Rattle.fields.specs.Bytes.{Head, Span, head_of, list_of, name_of, flag_of}
 use Rattle.fields.specs.Kinds.{kind_of}
 use Rattle.names.specs.Words.{◌∈◌}
@@ -45,7 +43,7 @@ alone role kind payload = emit role kind 0 payload done
 -- the record r is directly in the record q: met where the payload of q is read as its kind says, and no record inside is gone into
 pub record DirectlyIn (q r : Record) : Type 0 where
   pub body : Body
-  pub of_kind : kind_of q.role q.kind ≡ Known body
+  pub of_kind : kind_of q.role q.kind ≡ Some body
   pub met_there : r ∈ met (q.place + 5) (body_of body alone q.payload)
 
 -- Conditional and SwitchConditional
@@ -73,7 +71,7 @@ ListThen s inside rest = (n : ℕ) × (list_of s ≡ Span.Bytes n) × (inside �
 
 -- a flag, a label name if it is 1, and what follows
 abbrev pub LabelThen : List ℕ → List ℕ → Type 0
-LabelThen s rest = ((flag_of s ≡ flag.Off) × (rest ≡ drop 1 s)) ⊎ ((flag_of s ≡ flag.On) × NameThen (drop 1 s) rest)
+LabelThen s rest = ((flag_of s ≡ (Ok false)) × (rest ≡ drop 1 s)) ⊎ ((flag_of s ≡ (Ok true)) × NameThen (drop 1 s) rest)
 
 -- the payload of a choice: flag, label name if 1, condition list, node list, which is its body
 pub record ChoiceOf (payload conditions body : List ℕ) : Type 0 where

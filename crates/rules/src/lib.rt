@@ -4,10 +4,10 @@
 ghost use Rattle.std.specs.Prelude.{◌≡◌};
 ghost use Rattle.rules.specs.Rules.{number};
 
-// The fifteen rules, in the order of their numbers.
+// The fifteen rules, each with its number.
 #[derive(Clone, Copy)]
 pub enum Rule {
-    FunctionDivertedTo,
+    FunctionDivertedTo = 1,
     TargetNotFound,
     FlowCalled,
     NameIsFunction,
@@ -28,21 +28,5 @@ pub enum Rule {
 pub fn rule_number(rule: Rule) -> u8
     ensures { result ≡ number rule }
 {
-    match rule {
-        Rule::FunctionDivertedTo => 1,
-        Rule::TargetNotFound => 2,
-        Rule::FlowCalled => 3,
-        Rule::NameIsFunction => 4,
-        Rule::NameIsGlobal => 5,
-        Rule::TempIsParameter => 6,
-        Rule::TempIsLabel => 7,
-        Rule::ParameterUnmarked => 8,
-        Rule::ParameterAlreadyMarked => 9,
-        Rule::GatherRepeated => 10,
-        Rule::ChoiceUndiverted => 11,
-        Rule::FunctionWithStitches => 12,
-        Rule::FunctionWithChoice => 13,
-        Rule::FunctionWithDivert => 14,
-        Rule::VariableForbidden => 15,
-    }
+    rule as u8
 }

@@ -1,4 +1,6 @@
 -- Flows by their names. Assumes nothing.
+use Rattle.std.specs.Prelude.{Result, Ok, Err}
+use Rattle.story.specs.declared.Heading.{Heading}
 use mathlib.Core.Path.{◌≡◌, refl, ◌∙◌}
 use mathlib.Core.List.{List, ◌∷◌}
 use mathlib.Core.Bool.{Bool, true, false}
@@ -9,14 +11,10 @@ use borrow.Author.Tests.{eq-eqb, ne_eqb}
 use lib.ListN.{length, get_or, take, drop, get_or-eq_default}
 use lib.Seq.{drop-drop}
 use Rattle.fields.specs.declared.Refusal.{Refusal}
-use Rattle.fields.specs.declared.Reach.{Reach}
-use Rattle.fields.specs.declared.Reach.TheVariants as reach
 use Rattle.fields.specs.Bytes.{Span, list_of, span_reach}
 use Rattle.fields.proofs.Laws.{span_to, span-refused, to_end}
 use Rattle.names.specs.Words.{Bytes, same, any}
 use Rattle.names.specs.Counted.{name_at}
-use Rattle.story.specs.declared.HeadingRead.{HeadingRead}
-use Rattle.story.specs.declared.HeadingRead.TheVariants as heading
 use Rattle.story.specs.Headings.{heading_of}
 use Rattle.records.specs.Items.{name_in}
 use Rattle.story.specs.Flows.{titled_at, titled_in, pieces_at, pieces_n, pieces_in, flow_in, flows_in}
@@ -42,10 +40,10 @@ module _ {A : Type 0} (p : A → Bool) (f : ℕ → List ℕ → A) (free : (a b
   any-pieces a b s = any-turns (length s) a b s
 
 -- a flow's name, whether its heading can be read or not
-titled-name : (r : HeadingRead) (a : ℕ) (s : List ℕ) → (titled_at r a s).name.bytes ≡ name_in s
+titled-name : (r : Result Heading Refusal) (a : ℕ) (s : List ℕ) → (titled_at r a s).name.bytes ≡ name_in s
 unfolding titled_at
-titled-name (heading.At h) a s = refl
-titled-name (heading.Refused r) a s = refl
+titled-name (Ok h) a s = refl
+titled-name (Err r) a s = refl
 
 pub flow-name : (a : ℕ) (s : List ℕ) → (flow_in a s).name.bytes ≡ name_at s 1
 unfolding flow_in titled_in name_in name_at
@@ -80,11 +78,11 @@ module _ (n : Bytes) (s : List ℕ) {function : Bool} where
 
 -- the answers of the search
 module _ (b : Bool) (n : Bytes) (s : List ℕ) where
-  pub flows-none : (x : Refusal) {l : Reach} → l ≡ span_reach 4 (list_of s) → l ≡ reach.Refused x → false ≡ any (called_as b n) (flows_in 0 s)
+  pub flows-none : (x : Refusal) {l : Result ℕ Refusal} → l ≡ span_reach 4 (list_of s) → l ≡ Err x → false ≡ any (called_as b n) (flows_in 0 s)
   unfolding flows_in
   flows-none x e q = rw (pieces-in-refused flow_in 0 s refl (span-refused 4 (list_of s) e x q))
 
-  module _ (to : ℕ) {l : Reach} (e : l ≡ span_reach 4 (list_of s)) (q : l ≡ reach.To to) {r : Bool} (t : r ≡ called_as b n (flow_in 0 (take (to - 4) (drop 4 s)))) where
+  module _ (to : ℕ) {l : Result ℕ Refusal} (e : l ≡ span_reach 4 (list_of s)) (q : l ≡ Ok to) {r : Bool} (t : r ≡ called_as b n (flow_in 0 (take (to - 4) (drop 4 s)))) where
     step : flows_in 0 s ≡ flow_in 0 (take (to - 4) (drop 4 s)) ∷ flows_in (0 + to) (drop to s)
     unfolding flows_in
     step =

@@ -1,4 +1,5 @@
 -- Parts of parts of the bytes, and names that stand whole in a part. Assumes nothing.
+use Rattle.std.specs.Prelude.{Ok}
 use mathlib.Core.Path.{◌≡◌, refl, ◌∙◌}
 use mathlib.Core.List.{List, [], ◌∷◌}
 use Prim.Native.Nat.{ℕ, zero, suc, ◌+◌, ◌-◌, ◌≤◌, ◌<◌}
@@ -6,7 +7,6 @@ use native.Mathlib.Nat.{add-zero}
 use native.Mathlib.Omega.{arith}
 use lib.ListN.{length, get_or, take, drop, length-take}
 use lib.Seq.{take-take, drop-drop, get_or-take, get_or-drop}
-use Rattle.fields.specs.declared.Reach.TheVariants as reach
 use Rattle.fields.specs.Bytes.{Span, name_of}
 use Rattle.fields.proofs.Laws.{name-fits, name-count}
 use Rattle.names.specs.Counted.{name_at}
@@ -72,15 +72,15 @@ name-step n a (suc m) (x ∷ w) k e more =
     let rest : names_n n (a + (1 + x)) (drop x (take m w)) ≡ names_n n (a + (1 + x)) (drop x w) = rw (← same, past_first x x (take m w), past_first x x w) at more in
     rw (bytes, rest)
 
-pub names-whole : (n m a at : ℕ) (u : List ℕ) {e : ℕ} → names_reach (take m u) n at ≡ reach.To e → names_n n a (drop at (take m u)) ≡ names_n n a (drop at u)
+pub names-whole : (n m a at : ℕ) (u : List ℕ) {e : ℕ} → names_reach (take m u) n at ≡ Ok e → names_n n a (drop at (take m u)) ≡ names_n n a (drop at u)
 unfolding names_reach reach_at names_n
 names-whole zero m a at u q = refl
 names-whole (suc n) m a at u {e} q = by_name (name_of (drop at (take m u))) refl (λ k. names-whole n m (a + (1 + k)) (at + (1 + k)) u) q
   where
     by_name : (r : Span) → r ≡ name_of (drop at (take m u))
-        → ((k : ℕ) → names_reach (take m u) n (at + (1 + k)) ≡ reach.To e
+        → ((k : ℕ) → names_reach (take m u) n (at + (1 + k)) ≡ Ok e
         → names_n n (a + (1 + k)) (drop (at + (1 + k)) (take m u)) ≡ names_n n (a + (1 + k)) (drop (at + (1 + k)) u))
-        → reach_at r (names_reach (take m u) n) at ≡ reach.To e → names_n (suc n) a (drop at (take m u)) ≡ names_n (suc n) a (drop at u)
+        → reach_at r (names_reach (take m u) n) at ≡ Ok e → names_n (suc n) a (drop at (take m u)) ≡ names_n (suc n) a (drop at u)
     by_name (Span.Bytes k) p more q =
         let cut = drop-take at m u in
         rw cut
@@ -88,7 +88,7 @@ names-whole (suc n) m a at u {e} q = by_name (name_of (drop at (take m u))) refl
         (rw (← cut, drop-drop (1 + k) at (take m u), drop-drop (1 + k) at u) (more k q)))
     by_name (Span.Refused r) p more q = let z : ◌≡◌ {A = ℕ} 0 1 = cc in absurd (omega arith)
 
-pub counted-whole : (m a at : ℕ) (u : List ℕ) {e : ℕ} → counted_reach (take m u) at ≡ reach.To e → counted_in a (drop at (take m u)) ≡ counted_in a (drop at u)
+pub counted-whole : (m a at : ℕ) (u : List ℕ) {e : ℕ} → counted_reach (take m u) at ≡ Ok e → counted_in a (drop at (take m u)) ≡ counted_in a (drop at u)
 unfolding counted_in
 counted-whole m a at u q =
     let c = counted-read (take m u) at q in
@@ -108,7 +108,7 @@ module _ (file : List ℕ) (p e : ℕ) where
       let count : get_or (take (e - p) (drop p file)) 0 0 ≡ get_or (drop p file) 0 0 = get_or-take (e - p) (drop p file) 0 0 (omega arith) in
       rw (count, drop-take 1 (e - p) (drop p file), drop-drop 1 p file) (take-take (get_or (drop p file) 0 0) (e - p - 1) (drop (p + 1) file) (omega arith))
 
-  pub counted-in-part : (a at : ℕ) {x : ℕ} → counted_reach (part p e file) at ≡ reach.To x
+  pub counted-in-part : (a at : ℕ) {x : ℕ} → counted_reach (part p e file) at ≡ Ok x
       → counted_in a (drop at (part p e file)) ≡ counted_in a (drop (p + at) file)
   unfolding part
   counted-in-part a at q = counted-whole (e - p) a at (drop p file) q ∙ rw (drop-drop at p file)

@@ -1,4 +1,6 @@
 -- Flows and stitches that can be read have a view, and their bodies and what follows them can be read too. Assumes nothing.
+use Rattle.std.specs.Prelude.{Result, Option, Ok, Err, Some, None}
+use Rattle.fields.specs.declared.Refusal.{Refusal}
 use mathlib.Core.Path.{◌≡◌, refl, sym, ◌∙◌}
 use mathlib.Core.List.{List, []}
 use Prim.Native.Nat.{ℕ, ◌+◌}
@@ -7,18 +9,12 @@ use Rattle.fields.specs.Bytes.{Span, list_of}
 use Rattle.records.specs.Trace.{well, ends}
 use Rattle.records.specs.Grammar.{Reading, repeat, ending, nodes, piece}
 use Rattle.story.specs.declared.Heading.{Heading}
-use Rattle.story.specs.declared.HeadingRead.{HeadingRead}
-use Rattle.story.specs.declared.HeadingRead.TheVariants as heading
 use Rattle.story.specs.Headings.{heading_of}
 use Rattle.story.specs.Flows.{part, titled, stitch, flow, flows, pieces_in, stitch_in, flow_in, flows_in, stitches}
 use Rattle.story.proofs.Readable.{TitledWell, titled-well, titled-heading, piece-first, piece-rest, flow-titled}
 use Rattle.story.proofs.Unfolding.{pieces-in-refused}
 use Rattle.searches.specs.declared.views.StitchView.{StitchView}
-use Rattle.searches.specs.declared.views.StitchViewRead.{StitchViewRead}
-use Rattle.searches.specs.declared.views.StitchViewRead.TheVariants as stitch-view
 use Rattle.searches.specs.declared.views.FlowView.{FlowView}
-use Rattle.searches.specs.declared.views.FlowViewRead.{FlowViewRead}
-use Rattle.searches.specs.declared.views.FlowViewRead.TheVariants as flow-view
 use Rattle.searches.specs.Views.{title_view_at, title_view_of, stitch_view_at, stitch_view_of, flagged_view, flow_view_at, flow_view_of}
 use Rattle.searches.proofs.Parts.{part-drop, part-part, part-piece}
 use Rattle.searches.proofs.Viewed.{places, heading-fits, part-fits, title-viewed, stitch-seen, flow-seen}
@@ -26,7 +22,7 @@ use Rattle.searches.proofs.Viewed.{places, heading-fits, part-fits, title-viewed
 -- 1. What stands from a name on, where it can be read with k for what follows its nodes
 
 module _ (file : List ℕ) (p e : ℕ) (k : Reading) (good : ends (titled k (part p e file)) ≡ well) where
-  title-missing : title_view_of file p e ≡ stitch-view.None → ⊥
+  title-missing : title_view_of file p e ≡ None → ⊥
   unfolding title_view_of title_view_at
   title-missing q = by-heading (titled-heading k (part p e file) good)
     where
@@ -34,18 +30,18 @@ module _ (file : List ℕ) (p e : ℕ) (k : Reading) (good : ends (titled k (par
       by-heading (h, w) = let z : ◌≡◌ {A = ℕ} 0 1 = cc w.told in omega arith
 
   -- the nodes can be read, and what follows them
-  title-readable : (v : StitchView) → title_view_of file p e ≡ stitch-view.View v
+  title-readable : (v : StitchView) → title_view_of file p e ≡ Some v
       → (ends (nodes (part v.from v.to file)) ≡ well) × (ends (k (part v.to v.end file)) ≡ well)
   unfolding title_view_of title_view_at
   title-readable v q = by-heading (heading_of (part p e file)) refl q
     where
-      by-heading : (x : HeadingRead) → x ≡ heading_of (part p e file) → title_view_at x p e ≡ stitch-view.View v
+      by-heading : (x : Result Heading Refusal) → x ≡ heading_of (part p e file) → title_view_at x p e ≡ Some v
           → (ends (nodes (part v.from v.to file)) ≡ well) × (ends (k (part v.to v.end file)) ≡ well)
-      by-heading (heading.At h) read q =
+      by-heading (Ok h) read q =
           let same : places h p e ≡ v = cc in
           let w = titled-well k (part p e file) good h read refl in
           rw (← same, ← part-part h.nodes h.end p e file w.laid.nodes (heading-fits file p e h (sym read)), ← part-drop h.end p e file) (w.nodes, w.rest)
-      by-heading (heading.Refused x) read q = let z : ◌≡◌ {A = ℕ} 0 1 = cc in absurd (omega arith)
+      by-heading (Err x) read q = let z : ◌≡◌ {A = ℕ} 0 1 = cc in absurd (omega arith)
 
 -- 2. Pieces: the first, and those after it
 
@@ -64,17 +60,17 @@ pub record GoodStitch (file : List ℕ) (end : ℕ) (v : StitchView) : Type 0 wh
   pub body : ends (nodes (part v.from v.to file)) ≡ well
   pub rest : ends (stitches (part v.end end file)) ≡ well
 
-module _ (file : List ℕ) (at end : ℕ) (good : ends (stitches (part at end file)) ≡ well) {r : StitchViewRead} (told : r ≡ stitch_view_of file at end) where
+module _ (file : List ℕ) (at end : ℕ) (good : ends (stitches (part at end file)) ≡ well) {r : Option StitchView} (told : r ≡ stitch_view_of file at end) where
   -- where there is no view, no stitch is left
-  pub no-stitch : r ≡ stitch-view.None → pieces_in stitch_in at (part at end file) ≡ []
+  pub no-stitch : r ≡ None → pieces_in stitch_in at (part at end file) ≡ []
   unfolding stitch_view_of stitch_view_at stitch
   no-stitch q = by_span (list_of (part at end file)) refl (sym told ∙ q)
     where
-      by_span : (x : Span) → x ≡ list_of (part at end file) → stitch_view_at x file at ≡ stitch-view.None → pieces_in stitch_in at (part at end file) ≡ []
+      by_span : (x : Span) → x ≡ list_of (part at end file) → stitch_view_at x file at ≡ None → pieces_in stitch_in at (part at end file) ≡ []
       by_span (Span.Bytes n) read q = absurd (title-missing file (at + 4) (at + (4 + n)) ending (piece-good stitch file at end n read good) q)
       by_span (Span.Refused x) read q = pieces-in-refused stitch_in at (part at end file) read refl
 
-  pub stitch-readable : (v : StitchView) → r ≡ stitch-view.View v → GoodStitch file end v
+  pub stitch-readable : (v : StitchView) → r ≡ Some v → GoodStitch file end v
   unfolding stitch
   stitch-readable v q =
       let seen = stitch-seen file at end v told q in
@@ -90,7 +86,7 @@ pub record GoodFlow (file : List ℕ) (end : ℕ) (v : FlowView) : Type 0 where
   pub own : ends (stitches (part v.stitches v.end file)) ≡ well
   pub rest : ends (flows (part v.end end file)) ≡ well
 
-module _ (file : List ℕ) (at end : ℕ) (good : ends (flows (part at end file)) ≡ well) {r : FlowViewRead} (told : r ≡ flow_view_of file at end) where
+module _ (file : List ℕ) (at end : ℕ) (good : ends (flows (part at end file)) ≡ well) {r : Option FlowView} (told : r ≡ flow_view_of file at end) where
   own-good : (n : ℕ) → Span.Bytes n ≡ list_of (part at end file) → ends (titled stitches (part (at + 5) (at + (4 + n)) file)) ≡ well
   unfolding flows
   own-good n read =
@@ -99,19 +95,19 @@ module _ (file : List ℕ) (at end : ℕ) (good : ends (flows (part at end file)
       rw (← one, ← part-drop 1 (at + 4) (at + (4 + n)) file) (flow-titled s (piece-good flow file at end n read good)).1
 
   -- where there is no view, no flow is left
-  pub no_flow : r ≡ flow-view.None → flows_in at (part at end file) ≡ []
+  pub no_flow : r ≡ None → flows_in at (part at end file) ≡ []
   unfolding flow_view_of flow_view_at flagged_view flows_in
   no_flow q = by_span (list_of (part at end file)) refl (sym told ∙ q)
     where
-      by-title : (n : ℕ) (x : StitchViewRead) → Span.Bytes n ≡ list_of (part at end file) → x ≡ title_view_of file (at + 5) (at + (4 + n)) → flagged_view x file at ≡ flow-view.None → ⊥
-      by-title n (stitch-view.View v) read title q = let z : ◌≡◌ {A = ℕ} 0 1 = cc in omega arith
-      by-title n stitch-view.None read title q = title-missing file (at + 5) (at + (4 + n)) stitches (own-good n read) (sym title)
+      by-title : (n : ℕ) (x : Option StitchView) → Span.Bytes n ≡ list_of (part at end file) → x ≡ title_view_of file (at + 5) (at + (4 + n)) → flagged_view x file at ≡ None → ⊥
+      by-title n (Some v) read title q = let z : ◌≡◌ {A = ℕ} 0 1 = cc in omega arith
+      by-title n None read title q = title-missing file (at + 5) (at + (4 + n)) stitches (own-good n read) (sym title)
 
-      by_span : (x : Span) → x ≡ list_of (part at end file) → flow_view_at x file at ≡ flow-view.None → pieces_in flow_in at (part at end file) ≡ []
+      by_span : (x : Span) → x ≡ list_of (part at end file) → flow_view_at x file at ≡ None → pieces_in flow_in at (part at end file) ≡ []
       by_span (Span.Bytes n) read q = absurd (by-title n (title_view_of file (at + 5) (at + (4 + n))) read refl q)
       by_span (Span.Refused x) read q = pieces-in-refused flow_in at (part at end file) read refl
 
-  pub flow-readable : (v : FlowView) → r ≡ flow-view.View v → GoodFlow file end v
+  pub flow-readable : (v : FlowView) → r ≡ Some v → GoodFlow file end v
   unfolding flows
   flow-readable v q =
       let seen = flow-seen file at end v told q in

@@ -1,4 +1,5 @@
 -- What the view of a flow or a stitch is to the rules. Assumes nothing.
+use Rattle.std.specs.Prelude.{Result, Option, Ok, Err, Some, None}
 use mathlib.Core.Path.{◌≡◌, refl, sym, ◌∙◌}
 use mathlib.Core.List.{List, ◌∷◌}
 use Prim.Native.Nat.{ℕ, ◌+◌, ◌-◌, ◌≤◌, ◌<◌}
@@ -6,23 +7,15 @@ use native.Mathlib.Omega.{arith}
 use lib.Dec.{eqb}
 use lib.ListN.{get_or, take, drop, length-take}
 use Rattle.fields.specs.declared.Refusal.{Refusal}
-use Rattle.fields.specs.declared.Reach.{Reach}
-use Rattle.fields.specs.declared.Reach.TheVariants as reach
 use Rattle.fields.specs.Bytes.{Span, list_of, name_of, span_reach}
 use Rattle.fields.proofs.Laws.{list-fits, list-within, span_to, span-refused}
 use Rattle.story.specs.declared.Heading.{Heading}
-use Rattle.story.specs.declared.HeadingRead.{HeadingRead}
-use Rattle.story.specs.declared.HeadingRead.TheVariants as heading
 use Rattle.story.specs.Headings.{name_then, heading_of}
 use Rattle.story.specs.Flows.{part, titled_at, titled_in, pieces_in, stitch_in, title_end, flow_in, flows_in}
 use Rattle.story.proofs.Reaches.{heading-laid}
 use Rattle.story.proofs.Unfolding.{pieces-in-step}
 use Rattle.searches.specs.declared.views.StitchView.{StitchView}
-use Rattle.searches.specs.declared.views.StitchViewRead.{StitchViewRead}
-use Rattle.searches.specs.declared.views.StitchViewRead.TheVariants as stitch
 use Rattle.searches.specs.declared.views.FlowView.{FlowView}
-use Rattle.searches.specs.declared.views.FlowViewRead.{FlowViewRead}
-use Rattle.searches.specs.declared.views.FlowViewRead.TheVariants as flow
 use Rattle.searches.specs.Views.{title_view_at, title_view_of, stitch_view_at, stitch_view_of, flagged_view, flow_view_at, flow_view_of, viewed_stitch, viewed_flow}
 use Rattle.searches.proofs.Parts.{part-drop, part-part, part-piece, part_none, part-short, part-first, name-in-part, counted-in-part}
 
@@ -49,12 +42,12 @@ pub record Titled (file : List ℕ) (p e : ℕ) (v : StitchView) : Type 0 where
   pub stands : titled_in p (part p e file) ≡ viewed_stitch file v
 
 module _ (file : List ℕ) (p e : ℕ) where
-  pub heading-fits : (h : Heading) → heading_of (part p e file) ≡ heading.At h → p + h.end ≤ e
+  pub heading-fits : (h : Heading) → heading_of (part p e file) ≡ Ok h → p + h.end ≤ e
   heading-fits h read =
       let laid = heading-laid (part p e file) h refl read in
       omega (arith, laid.some, laid.params, laid.marks, laid.nodes, laid.within, part-short p e file)
 
-  heading-viewed : (h : Heading) → heading_of (part p e file) ≡ heading.At h → Titled file p e (places h p e)
+  heading-viewed : (h : Heading) → heading_of (part p e file) ≡ Ok h → Titled file p e (places h p e)
   unfolding titled_in titled_at title_end
   heading-viewed h read =
       let laid = heading-laid (part p e file) h refl read in
@@ -80,20 +73,20 @@ module _ (file : List ℕ) (p e : ℕ) where
             );
       }
 
-  pub places-order : (h : Heading) {r : HeadingRead} → r ≡ heading_of (take (e - p) (drop p file)) → r ≡ heading.At h → ViewOrder (places h p e)
+  pub places-order : (h : Heading) {r : Result Heading Refusal} → r ≡ heading_of (take (e - p) (drop p file)) → r ≡ Ok h → ViewOrder (places h p e)
   unfolding part
   places-order h told q = (heading-viewed h (sym told ∙ q)).order
 
-  pub title-viewed : (v : StitchView) → title_view_of file p e ≡ stitch.View v → Titled file p e v
+  pub title-viewed : (v : StitchView) → title_view_of file p e ≡ Some v → Titled file p e v
   unfolding title_view_of title_view_at
   title-viewed v q = by-heading (heading_of (part p e file)) refl q
     where
-      by-heading : (x : HeadingRead) → x ≡ heading_of (part p e file) → title_view_at x p e ≡ stitch.View v → Titled file p e v
-      by-heading (heading.At h) read q = let same : places h p e ≡ v = cc in rw (← same) (heading-viewed h (sym read))
-      by-heading (heading.Refused x) read q = let z : ◌≡◌ {A = ℕ} 0 1 = cc in absurd (omega arith)
+      by-heading : (x : Result Heading Refusal) → x ≡ heading_of (part p e file) → title_view_at x p e ≡ Some v → Titled file p e v
+      by-heading (Ok h) read q = let same : places h p e ≡ v = cc in rw (← same) (heading-viewed h (sym read))
+      by-heading (Err x) read q = let z : ◌≡◌ {A = ℕ} 0 1 = cc in absurd (omega arith)
 
 -- nothing stands in no bytes
-pub title-none : (file : List ℕ) (p e : ℕ) → e ≤ p → stitch.None ≡ title_view_of file p e
+pub title-none : (file : List ℕ) (p e : ℕ) → e ≤ p → None ≡ title_view_of file p e
 unfolding title_view_of title_view_at heading_of name_of name_then
 title-none file p e h = rw (part_none p e file h)
 
@@ -104,28 +97,28 @@ part-fits file at end n told =
     omega (arith, list-fits (take (end - at) (drop at file)) n told refl, length-take (end - at) (drop at file))
 
 -- the views, as the code learns how far a piece reaches
-module _ (file : List ℕ) (at end : ℕ) {r : Reach} (told : r ≡ span_reach 4 (list_of (take (end - at) (drop at file)))) where
-  pub piece-within : (to : ℕ) → r ≡ reach.To to → (4 ≤ to) × (at + to ≤ end)
+module _ (file : List ℕ) (at end : ℕ) {r : Result ℕ Refusal} (told : r ≡ span_reach 4 (list_of (take (end - at) (drop at file)))) where
+  pub piece-within : (to : ℕ) → r ≡ Ok to → (4 ≤ to) × (at + to ≤ end)
   piece-within to q = omega (arith, list-within (take (end - at) (drop at file)) to told q, length-take (end - at) (drop at file))
 
-  pub stitch-view-at : (to : ℕ) → r ≡ reach.To to → stitch_view_of file at end ≡ title_view_of file (at + 4) (at + to)
+  pub stitch-view-at : (to : ℕ) → r ≡ Ok to → stitch_view_of file at end ≡ title_view_of file (at + 4) (at + to)
   unfolding stitch_view_of stitch_view_at part
   stitch-view-at to q =
       let h = span_to 4 (list_of (take (end - at) (drop at file))) told to q in
       rw (h.0, h.1)
 
-  pub flow-view-at : (to : ℕ) → r ≡ reach.To to → flow_view_of file at end ≡ flagged_view (title_view_of file (at + 5) (at + to)) file at
+  pub flow-view-at : (to : ℕ) → r ≡ Ok to → flow_view_of file at end ≡ flagged_view (title_view_of file (at + 5) (at + to)) file at
   unfolding flow_view_of flow_view_at part
   flow-view-at to q =
       let h = span_to 4 (list_of (take (end - at) (drop at file))) told to q in
       rw (h.0, h.1)
 
-  module _ (x : Refusal) (q : r ≡ reach.Refused x) where
-    pub stitch-view-none : stitch.None ≡ stitch_view_of file at end
+  module _ (x : Refusal) (q : r ≡ Err x) where
+    pub stitch-view-none : None ≡ stitch_view_of file at end
     unfolding stitch_view_of stitch_view_at part
     stitch-view-none = rw (span-refused 4 (list_of (take (end - at) (drop at file))) told x q)
 
-    pub flow-view-none : flow.None ≡ flow_view_of file at end
+    pub flow-view-none : None ≡ flow_view_of file at end
     unfolding flow_view_of flow_view_at part
     flow-view-none = rw (span-refused 4 (list_of (take (end - at) (drop at file))) told x q)
 
@@ -135,7 +128,7 @@ module _ (file : List ℕ) (at end : ℕ) {r : Reach} (told : r ≡ span_reach 4
 pub record StitchSeen (file : List ℕ) (at end : ℕ) (v : StitchView) : Type 0 where
   pub n : ℕ
   pub length : Span.Bytes n ≡ list_of (part at end file)
-  pub title : title_view_of file (at + 4) (at + (4 + n)) ≡ stitch.View v
+  pub title : title_view_of file (at + 4) (at + (4 + n)) ≡ Some v
 
 -- the stitch's parts stand in this order, within what it is read from
 pub record StitchLaid (at end : ℕ) (v : StitchView) : Type 0 where
@@ -147,7 +140,7 @@ pub record StitchLaid (at end : ℕ) (v : StitchView) : Type 0 where
   pub to : v.to ≤ v.end
   pub within : v.end ≤ end
 
-stitch-first : (file : List ℕ) (at end n : ℕ) (v : StitchView) → Span.Bytes n ≡ list_of (part at end file) → title_view_of file (at + 4) (at + (4 + n)) ≡ stitch.View v
+stitch-first : (file : List ℕ) (at end n : ℕ) (v : StitchView) → Span.Bytes n ≡ list_of (part at end file) → title_view_of file (at + 4) (at + (4 + n)) ≡ Some v
     → pieces_in stitch_in at (part at end file) ≡ viewed_stitch file v ∷ pieces_in stitch_in v.end (part v.end end file)
 unfolding stitch_in
 stitch-first file at end n v read title =
@@ -155,12 +148,12 @@ stitch-first file at end n v read title =
     pieces-in-step stitch_in at n (part at end file) read refl
     ∙ rw (part-piece n at end file (part-fits file at end n read), part-drop (4 + n) at end file, t.stands, t.end)
 
-module _ (file : List ℕ) (at end : ℕ) (v : StitchView) {r : StitchViewRead} (told : r ≡ stitch_view_of file at end) (given : r ≡ stitch.View v) where
+module _ (file : List ℕ) (at end : ℕ) (v : StitchView) {r : Option StitchView} (told : r ≡ stitch_view_of file at end) (given : r ≡ Some v) where
   pub stitch-seen : StitchSeen file at end v
   unfolding stitch_view_of stitch_view_at
   stitch-seen = by_span (list_of (part at end file)) refl (sym told ∙ given)
     where
-      by_span : (x : Span) → x ≡ list_of (part at end file) → stitch_view_at x file at ≡ stitch.View v → StitchSeen file at end v
+      by_span : (x : Span) → x ≡ list_of (part at end file) → stitch_view_at x file at ≡ Some v → StitchSeen file at end v
       by_span (Span.Bytes n) read q = record { n = n; length = read; title = q }
       by_span (Span.Refused x) read q = let z : ◌≡◌ {A = ℕ} 0 1 = cc in absurd (omega arith)
 
@@ -203,7 +196,7 @@ pub record FlowSeen (file : List ℕ) (at end : ℕ) (v : FlowView) : Type 0 whe
   pub n : ℕ
   pub length : Span.Bytes n ≡ list_of (part at end file)
   pub own : StitchView
-  pub title : title_view_of file (at + 5) (at + (4 + n)) ≡ stitch.View own
+  pub title : title_view_of file (at + 5) (at + (4 + n)) ≡ Some own
   pub places : flow_places file at own ≡ v
 
 -- the flow's parts stand in this order, within what it is read from
@@ -230,7 +223,7 @@ flow-stands file at e v t =
     rw (part-drop 1 (at + 4) e file, one, part-drop (1 + rest) (at + 4) e file, from, place, part-first (at + 4) e file after, t.stands, t.end)
 
 flow-first : (file : List ℕ) (at end n : ℕ) (own : StitchView) (v : FlowView) → Span.Bytes n ≡ list_of (part at end file)
-    → title_view_of file (at + 5) (at + (4 + n)) ≡ stitch.View own → flow_places file at own ≡ v
+    → title_view_of file (at + 5) (at + (4 + n)) ≡ Some own → flow_places file at own ≡ v
     → flows_in at (part at end file) ≡ viewed_flow file v ∷ flows_in v.end (part v.end end file)
 unfolding flows_in
 flow-first file at end n own v read title same =
@@ -238,17 +231,17 @@ flow-first file at end n own v read title same =
     pieces-in-step flow_in at n (part at end file) read refl
     ∙ rw (part-piece n at end file (part-fits file at end n read), part-drop (4 + n) at end file, flow-stands file at (at + (4 + n)) own t, ← same, t.end)
 
-module _ (file : List ℕ) (at end : ℕ) (v : FlowView) {r : FlowViewRead} (told : r ≡ flow_view_of file at end) (given : r ≡ flow.View v) where
+module _ (file : List ℕ) (at end : ℕ) (v : FlowView) {r : Option FlowView} (told : r ≡ flow_view_of file at end) (given : r ≡ Some v) where
   pub flow-seen : FlowSeen file at end v
   unfolding flow_view_of flow_view_at flagged_view
   flow-seen = by_span (list_of (part at end file)) refl (sym told ∙ given)
     where
-      by-title : (n : ℕ) (x : StitchViewRead) → Span.Bytes n ≡ list_of (part at end file) → x ≡ title_view_of file (at + 5) (at + (4 + n)) → flagged_view x file at ≡ flow.View v
+      by-title : (n : ℕ) (x : Option StitchView) → Span.Bytes n ≡ list_of (part at end file) → x ≡ title_view_of file (at + 5) (at + (4 + n)) → flagged_view x file at ≡ Some v
           → FlowSeen file at end v
-      by-title n (stitch.View w) read title q = record { n = n; length = read; own = w; title = sym title; places = cc }
-      by-title n stitch.None read title q = let z : ◌≡◌ {A = ℕ} 0 1 = cc in absurd (omega arith)
+      by-title n (Some w) read title q = record { n = n; length = read; own = w; title = sym title; places = cc }
+      by-title n None read title q = let z : ◌≡◌ {A = ℕ} 0 1 = cc in absurd (omega arith)
 
-      by_span : (x : Span) → x ≡ list_of (part at end file) → flow_view_at x file at ≡ flow.View v → FlowSeen file at end v
+      by_span : (x : Span) → x ≡ list_of (part at end file) → flow_view_at x file at ≡ Some v → FlowSeen file at end v
       by_span (Span.Bytes n) read q = by-title n (title_view_of file (at + 5) (at + (4 + n))) read refl q
       by_span (Span.Refused x) read q = let z : ◌≡◌ {A = ℕ} 0 1 = cc in absurd (omega arith)
 

@@ -9,7 +9,7 @@ ghost use Rattle.searches.specs.Called.{called_as, is_flow, is_function};
 
 pub mod views;
 
-use fields::{Reach, read_list};
+use fields::read_list;
 use names::{name_at, same_at, same_name};
 
 // The name is one of the first so many names of s. Stops at the name found.
@@ -17,8 +17,7 @@ fn names_have(s: &[u8], many: usize, name: &[u8]) -> bool
     ensures { result ≡ one_of name.now (words (names_n many 0 s.now)) }
 {
     let mut t = s;
-    let mut left = many;
-    while 0 < left {
+    for _ in 0..many {
         if t.len() == 0 {
             return false;
         }
@@ -26,9 +25,7 @@ fn names_have(s: &[u8], many: usize, name: &[u8]) -> bool
         if same_name(name, word) {
             return true;
         }
-        let e = 1 + word.len();
-        t = &t[e..];
-        left = left - 1;
+        t = &t[1 + word.len()..];
     }
     false
 }
@@ -73,7 +70,7 @@ fn flows_have(s: &[u8], name: &[u8], function: bool) -> bool
 {
     let mut t = s;
     loop {
-        let Reach::To(e) = read_list(t) else {
+        let Ok(e) = read_list(t) else {
             return false;
         };
         if is_called(&t[4..e], name, function) {

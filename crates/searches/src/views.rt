@@ -2,8 +2,7 @@
 ghost use Rattle.std.specs.Prelude.{◌≡◌, ◌≤◌, length};
 ghost use Rattle.searches.specs.Views.{title_view_of, stitch_view_of, flow_view_of};
 
-use fields::{Reach, read_list};
-use story::HeadingRead;
+use fields::read_list;
 use story::headings::read_heading;
 
 // A stitch: the count bytes of its name, its parameters and its divert parameters, its nodes, and its end.
@@ -15,13 +14,6 @@ pub struct StitchView {
     pub from: usize,
     pub to: usize,
     pub end: usize,
-}
-
-// The view of a stitch, or that there is none.
-#[derive(Clone, Copy)]
-pub enum StitchViewRead {
-    View(StitchView),
-    None,
 }
 
 // A flow: its first byte, its flag, the places as of a stitch, its stitches, and its end.
@@ -38,22 +30,15 @@ pub struct FlowView {
     pub end: usize,
 }
 
-// The view of a flow, or that there is none.
-#[derive(Clone, Copy)]
-pub enum FlowViewRead {
-    View(FlowView),
-    None,
-}
-
 // What a flow or a stitch has from its name on, to its end.
-fn title_view(file: &[u8], name: usize, end: usize) -> StitchViewRead
+fn title_view(file: &[u8], name: usize, end: usize) -> Option<StitchView>
     requires { (name ≤ end) × (end ≤ length file.now) }
     ensures { result ≡ title_view_of file.now name end }
 {
-    let HeadingRead::At(h) = read_heading(&file[name..end]) else {
-        return StitchViewRead::None;
+    let Ok(h) = read_heading(&file[name..end]) else {
+        return None;
     };
-    StitchViewRead::View(StitchView {
+    Some(StitchView {
         name,
         params: name + h.params,
         marks: name + h.marks,
@@ -64,31 +49,29 @@ fn title_view(file: &[u8], name: usize, end: usize) -> StitchViewRead
 }
 
 // The stitch at the place, of those to the end.
-pub fn stitch_view(file: &[u8], at: usize, end: usize) -> StitchViewRead
+pub fn stitch_view(file: &[u8], at: usize, end: usize) -> Option<StitchView>
     requires { (at ≤ end) × (end ≤ length file.now) }
     ensures { result ≡ stitch_view_of file.now at end }
 {
-    let Reach::To(e) = read_list(&file[at..end]) else {
-        return StitchViewRead::None;
+    let Ok(e) = read_list(&file[at..end]) else {
+        return None;
     };
     title_view(file, at + 4, at + e)
 }
 
 // The flow at the place, of those to the end.
-pub fn flow_view(file: &[u8], at: usize, end: usize) -> FlowViewRead
+pub fn flow_view(file: &[u8], at: usize, end: usize) -> Option<FlowView>
     requires { (at ≤ end) × (end ≤ length file.now) }
     ensures { result ≡ flow_view_of file.now at end }
 {
-    let Reach::To(e) = read_list(&file[at..end]) else {
-        return FlowViewRead::None;
+    let Ok(e) = read_list(&file[at..end]) else {
+        return None;
     };
     if e == 4 {
-        return FlowViewRead::None;
+        return None;
     }
-    let StitchViewRead::View(own) = title_view(file, at + 5, at + e) else {
-        return FlowViewRead::None;
-    };
-    FlowViewRead::View(FlowView {
+    let own = title_view(file, at + 5, at + e)?;
+    Some(FlowView {
         at,
         function: file[at + 4] == 1,
         name: own.name,

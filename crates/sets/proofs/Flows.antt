@@ -14,8 +14,9 @@ use Rattle.searches.specs.declared.views.FlowView.{FlowView}
 use Rattle.searches.specs.Called.{called_as}
 use Rattle.searches.specs.Views.{viewed_flow}
 use Rattle.searches.proofs.Answers.{flows-answer}
-use Rattle.sets.specs.declared.PutAnswer.{PutAnswer}
-use Rattle.sets.specs.Sets.{name_slots, held, is_full, PutIn, Without}
+use Rattle.std.specs.Prelude.{Result, is_err, IsErr}
+use Rattle.sets.specs.declared.Full.{Full}
+use Rattle.sets.specs.Sets.{name_slots, held, PutIn, Without}
 use Rattle.sets.specs.Known.{flow_class, view_called, FlowPut, FlowsHeld, FlowsPut}
 use Rattle.sets.proofs.Holding.{put-own, put_other, same_start, same_next}
 
@@ -31,8 +32,8 @@ absorbed x true false p = rw p
 absorbed x false true p = rw p
 absorbed x false false p = rw p
 
-module _ (file : List ℕ) (v : FlowView) {before middle : List ℕ} {r : PutAnswer} {b : Bool}
-    (p : PutIn (name_slots file) (2 ∷ name_at file v.name) before middle r) (e : b ≡ is_full r) where
+module _ (file : List ℕ) (v : FlowView) {before middle : List ℕ} {r : Result Bool Full} {b : Bool}
+    (p : PutIn (name_slots file) (2 ∷ name_at file v.name) before middle r) (e : b ≡ is_err r) where
   -- no room for its name
   pub flow-full : b ≡ true → FlowPut file v before middle true
   flow-full q = record {
@@ -52,7 +53,7 @@ module _ (file : List ℕ) (v : FlowView) {before middle : List ℕ} {r : PutAns
         both false w = put-own p (sym e ∙ q) w
 
     -- a function
-    module _ {after : List ℕ} {s : PutAnswer} {a : Bool} (o : PutIn (name_slots file) (3 ∷ name_at file v.name) middle after s) (i : a ≡ is_full s) (g : v.function ≡ true) where
+    module _ {after : List ℕ} {s : Result Bool Full} {a : Bool} (o : PutIn (name_slots file) (3 ∷ name_at file v.name) middle after s) (i : a ≡ is_err s) (g : v.function ≡ true) where
       as-flow : (w : Bytes) → one_of (2 ∷ w) (held (name_slots file) after) ≡ same w (name_at file v.name) || one_of (2 ∷ w) (held (name_slots file) before)
       as-flow w = (put_other o 2 (λ z. omega arith)).words w ∙ put-own p (sym e ∙ q) w
 
@@ -73,6 +74,10 @@ module _ (file : List ℕ) (v : FlowView) {before middle : List ℕ} {r : PutAns
           some : (f : Bool) (w : Bytes) → one_of (flow_class f ∷ w) (held (name_slots file) after) || view_called f file v w ≡ one_of (flow_class f ∷ w) (held (name_slots file) before) || view_called f file v w
           some true w = by-room a refl w
           some false w = absorbed _ _ _ (as-flow w)
+
+-- an answer that is an error says that there was no room
+pub err-full : {file : List ℕ} {v : FlowView} {before after : List ℕ} (x : Result (Unit {0}) Full) → IsErr x → FlowPut file v before after true → FlowPut file v before after (is_err x)
+err-full x h p = rw h p
 
 -- 2. Flow by flow
 
@@ -133,8 +138,8 @@ module _ {file : List ℕ} {c : Sections} {before set : List ℕ} {at : ℕ} (h 
 -- 3. Asking for a name
 
 module _ {file : List ℕ} {c : Sections} {set : List ℕ} {rest : ℕ} (h : FlowsHeld file c set rest) (f : Bool) (w : Bytes) {b : Bool} (e : b ≡ one_of (flow_class f ∷ w) (held (name_slots file) set)) where
-  pub flow-found : b ≡ true → true ≡ any (called_as f w) (story_in c file).flows
-  flow-found q = rw (h.names f w, ← e, q)
+  pub flow-found : b ≡ true → b ≡ any (called_as f w) (story_in c file).flows
+  flow-found q = q ∙ rw (h.names f w, ← e, q)
 
   pub flow-left : {r : Bool} → b ≡ false → r ≡ any (called_as f w) (flows_in 0 (take (c.end - rest) (drop rest file))) → r ≡ any (called_as f w) (story_in c file).flows
   flow-left q a = rw (h.names f w, ← e, q) (flows-answer file w rest f c.end a)

@@ -5,22 +5,23 @@ use mathlib.Core.List.{List, ◌∷◌}
 use Prim.Native.Nat.{ℕ}
 use borrow.Author.Tests.{eq-eqb, ne_eqb}
 use Rattle.names.specs.Words.{Bytes, same, one_of}
-use Rattle.sets.specs.declared.PutAnswer.{PutAnswer}
-use Rattle.sets.specs.Sets.{Slots, held, Empty, is_full, PutIn, Holding, Same, Without}
+use Rattle.std.specs.Prelude.{Result, is_err}
+use Rattle.sets.specs.declared.Full.{Full}
+use Rattle.sets.specs.Sets.{Slots, held, Empty, PutIn, Holding, Same, Without}
 use Rattle.sets.proofs.Clearing.{empty-reachable, empty_holds}
 
 -- 1. One name
 
-module _ {k : Slots} {class : ℕ} {n : Bytes} {before after : List ℕ} {r : PutAnswer} (p : PutIn k (class ∷ n) before after r) where
+module _ {k : Slots} {class : ℕ} {n : Bytes} {before after : List ℕ} {r : Result Bool Full} (p : PutIn k (class ∷ n) before after r) where
   -- in its class
-  pub put-own : is_full r ≡ false → (w : Bytes) → one_of (class ∷ w) (held k after) ≡ same w n || one_of (class ∷ w) (held k before)
+  pub put-own : is_err r ≡ false → (w : Bytes) → one_of (class ∷ w) (held k after) ≡ same w n || one_of (class ∷ w) (held k before)
   put-own q w = p.holds q (class ∷ w) ∙ rw (eq-eqb class class refl)
 
   -- in another
   pub put_other : (d : ℕ) → (d ≡ class → ⊥) → Same k d before after
-  put_other d z = record { words = λ w. by-room (is_full r) refl w }
+  put_other d z = record { words = λ w. by-room (is_err r) refl w }
     where
-      by-room : (full : Bool) → is_full r ≡ full → (w : Bytes) → one_of (d ∷ w) (held k after) ≡ one_of (d ∷ w) (held k before)
+      by-room : (full : Bool) → is_err r ≡ full → (w : Bytes) → one_of (d ∷ w) (held k after) ≡ one_of (d ∷ w) (held k before)
       by-room true q w = rw (p.full q)
       by-room false q w = p.holds q (d ∷ w) ∙ rw (ne_eqb d class z)
 
@@ -48,7 +49,7 @@ holding-start all e = record { reachable = e.reachable; words = λ w. rw (e.none
 
 module _ {k : Slots} {class : ℕ} {set : List ℕ} {all rest : List Bytes} (h : Holding k class set all rest) where
   -- the first of the rest was put
-  pub holding-next : {n : Bytes} {more : List Bytes} {after : List ℕ} {r : PutAnswer} {b : Bool} → rest ≡ n ∷ more → PutIn k (class ∷ n) set after r → b ≡ is_full r → b ≡ false
+  pub holding-next : {n : Bytes} {more : List Bytes} {after : List ℕ} {r : Result Bool Full} {b : Bool} → rest ≡ n ∷ more → PutIn k (class ∷ n) set after r → b ≡ is_err r → b ≡ false
       → Holding k class after all more
   holding-next {n} {more} q p e f = record {
     reachable = p.reachable;
@@ -62,13 +63,13 @@ module _ {k : Slots} {class : ℕ} {set : List ℕ} {all rest : List Bytes} (h :
       regroup false false c = refl
 
   -- there was no room
-  pub holding-stop : {n : Bytes} {after : List ℕ} {r : PutAnswer} {b : Bool} → PutIn k (class ∷ n) set after r → b ≡ is_full r → b ≡ true → Holding k class after all rest
+  pub holding-stop : {n : Bytes} {after : List ℕ} {r : Result Bool Full} {b : Bool} → PutIn k (class ∷ n) set after r → b ≡ is_err r → b ≡ true → Holding k class after all rest
   holding-stop p e f = rw (p.full (sym e ∙ f)) h
 
   -- a word is asked for: the set has it, or the rest decides
   module _ (w : Bytes) {b : Bool} (e : b ≡ one_of (class ∷ w) (held k set)) where
-    pub holding-found : b ≡ true → true ≡ one_of w all
-    holding-found f = rw (h.words w, ← e, f)
+    pub holding-found : b ≡ true → b ≡ one_of w all
+    holding-found f = f ∙ rw (h.words w, ← e, f)
 
     pub holding-left : {r : Bool} → b ≡ false → r ≡ one_of w rest → r ≡ one_of w all
     holding-left f q = rw (h.words w, ← e, f) q

@@ -15,8 +15,9 @@ use Rattle.records.proofs.Places.{drop-take}
 use Rattle.items.specs.declared.named.Sought.{Sought}
 use Rattle.items.specs.Search.{of_sort, bears, found_among}
 use Rattle.items.specs.Standing.{NamesStand}
-use Rattle.sets.specs.declared.PutAnswer.{PutAnswer}
-use Rattle.sets.specs.Sets.{name_slots, held, Reachable, is_full, PutIn, Same, Without}
+use Rattle.std.specs.Prelude.{Result, is_err}
+use Rattle.sets.specs.declared.Full.{Full}
+use Rattle.sets.specs.Sets.{name_slots, held, Reachable, PutIn, Same, Without}
 use Rattle.sets.specs.Members.{found_in, Members, MembersPut}
 use Rattle.sets.proofs.Holding.{put-own, put_other, same_start, same_next}
 
@@ -103,7 +104,7 @@ module _ {s : Sought} {file : List ℕ} {class : ℕ} {items : List ℕ} {i : �
   members-stay = record { members = members-left; others = λ d z. same_start (name_slots file) d set }
 
   -- an item of the sort
-  module _ {n : Bytes} {after : List ℕ} {r : PutAnswer} {full : Bool} (p : PutIn (name_slots file) (class ∷ n) set after r) (e : full ≡ is_full r) (l : i ≤ rest) where
+  module _ {n : Bytes} {after : List ℕ} {r : Result Bool Full} {full : Bool} (p : PutIn (name_slots file) (class ∷ n) set after r) (e : full ≡ is_err r) (l : i ≤ rest) where
     -- there was no room
     pub members-full : full ≡ true → MembersPut s file class items (i + 1) set after i
     members-full f = rw (p.full (sym e ∙ f)) (record { members = left-from i (omega (arith, m.inside)); others = λ d z. same_start (name_slots file) d set })
@@ -170,8 +171,8 @@ without-members {d = d} p z o = record { reachable = p.members.reachable; none =
 module _ {s : Sought} {file : List ℕ} {class : ℕ} {items : List ℕ} {i : ℕ} {set : List ℕ} {rest : ℕ} (m : Members s file class items i set rest)
     (w : Bytes) {b : Bool} (e : b ≡ one_of (class ∷ w) (held (name_slots file) set)) where
   -- the set has it
-  pub member-found : b ≡ true → true ≡ found_in s file (take i items) w
-  member-found f = rw (m.names w, ← e, f)
+  pub member-found : b ≡ true → b ≡ found_in s file (take i items) w
+  member-found f = f ∙ rw (m.names w, ← e, f)
 
   -- the items that were left decide
   pub member-left : {r : Bool} → b ≡ false → r ≡ found_in s file (take (i - rest) (drop rest items)) w → r ≡ found_in s file (take i items) w

@@ -15,14 +15,15 @@ use Rattle.names.proofs.Bools.{bool-ext, or_cases, or_left, or_right}
 use Rattle.names.proofs.Words.{same-eq}
 use Rattle.sets.specs.declared.Sought.{Sought}
 use Rattle.sets.specs.declared.Sought.TheVariants as sought
-use Rattle.sets.specs.declared.PutAnswer.TheVariants as put
+use Rattle.std.specs.Prelude.{Ok, Err}
+use Rattle.sets.specs.declared.Full.{Full}
 use Rattle.sets.specs.Hashes.{hash_of, home_of}
 use Rattle.sets.specs.Sets.{Slots, name_slots, held, Reachable, Room, Ended, PutIn}
 use Rattle.sets.proofs.Held.{Holds, held_at, held-some}
 use Rattle.sets.proofs.Walking.{walk-found, walk-vacant, walk-exhausted, tag-of}
 
 -- a word that is held already
-pub put-known : (k : Slots) (slots : List ℕ) (n : Bytes) → Reachable k slots → true ≡ one_of n (held k slots) → PutIn k n slots slots put.Known
+pub put-known : (k : Slots) (slots : List ℕ) (n : Bytes) → Reachable k slots → true ≡ one_of n (held k slots) → PutIn k n slots slots (Ok false)
 put-known k slots n r t = record {
   reachable = r;
   was = t;
@@ -33,8 +34,8 @@ put-known k slots n r t = record {
 }
 
 -- a word for which there is no room
-pub put_full : (k : Slots) (slots : List ℕ) (n : Bytes) → Reachable k slots → false ≡ one_of n (held k slots) → PutIn k n slots slots put.Full
-put_full k slots n r t = record {
+pub put_full : (k : Slots) (slots : List ℕ) (n : Bytes) (e : Full) → Reachable k slots → false ≡ one_of n (held k slots) → PutIn k n slots slots (Err e)
+put_full k slots n e r t = record {
   reachable = r;
   was = t;
   holds = λ q. absurd (let z : ◌≡◌ {A = ℕ} 0 1 = cc in omega arith);
@@ -108,7 +109,7 @@ module _ (k : Slots) (slots : List ℕ) (r : Reachable k slots) (n : Bytes) (v s
         (λ i. kept (held-some k w slots i))
         (or_cases (same w n) (one_of w (held k slots)) t))
 
-  pub put-added : false ≡ one_of n (held k slots) → PutIn k n slots after put.Added
+  pub put-added : false ≡ one_of n (held k slots) → PutIn k n slots after (Ok true)
   put-added t = record {
     reachable = reachable-after;
     was = t;
@@ -118,17 +119,17 @@ module _ (k : Slots) (slots : List ℕ) (r : Reachable k slots) (n : Bytes) (v s
 
 -- a name of a file in a class, by where the walk over its slots ended
 module _ (file slots : List ℕ) (place class : ℕ) (w : Bytes) (e : w ≡ name_at file place) (r : Reachable (name_slots file) slots) {x : Sought} (t : Ended (name_slots file) slots (class ∷ w) x) where
-  pub found-known : x ≡ sought.Found → PutIn (name_slots file) (class ∷ name_at file place) slots slots put.Known
+  pub found-known : x ≡ sought.Found → PutIn (name_slots file) (class ∷ name_at file place) slots slots (Ok false)
   found-known q = rw (← e) (put-known (name_slots file) slots (class ∷ w) r (walk-found (name_slots file) slots (class ∷ w) t q))
 
-  pub exhausted-full : x ≡ sought.Exhausted → PutIn (name_slots file) (class ∷ name_at file place) slots slots put.Full
-  exhausted-full q = rw (← e) (put_full (name_slots file) slots (class ∷ w) r (walk-exhausted (name_slots file) slots (class ∷ w) t q))
+  pub exhausted-full : (f : Full) → x ≡ sought.Exhausted → PutIn (name_slots file) (class ∷ name_at file place) slots slots (Err f)
+  exhausted-full f q = rw (← e) (put_full (name_slots file) slots (class ∷ w) f r (walk-exhausted (name_slots file) slots (class ∷ w) t q))
 
   pub vacant-inside : {s : ℕ} → x ≡ sought.Vacant s → s < length slots
   vacant-inside q = (walk-vacant (name_slots file) slots (class ∷ w) t q).1.inside
 
   pub vacant-added : {s hash : ℕ} → x ≡ sought.Vacant s → place < 1048576 → class < 4 → hash ≡ hash_of (class ∷ w)
-      → PutIn (name_slots file) (class ∷ name_at file place) slots (set slots s (1 + (place + (class + 4 * (hash % 512)) * 1048576))) put.Added
+      → PutIn (name_slots file) (class ∷ name_at file place) slots (set slots s (1 + (place + (class + 4 * (hash % 512)) * 1048576))) (Ok true)
   vacant-added {s} {hash} q h l p =
       let v = 1 + (place + (class + 4 * (hash % 512)) * 1048576) in
       let o = rw e at (walk-vacant (name_slots file) slots (class ∷ w) t q) in

@@ -14,8 +14,9 @@ use Rattle.story.specs.Story.{Name, words}
 use Rattle.story.specs.Flows.{names_n, names_in, part}
 use Rattle.searches.proofs.Parts.{part-drop, part-take}
 use Rattle.searches.proofs.Answers.{section-answer}
-use Rattle.sets.specs.declared.PutAnswer.{PutAnswer}
-use Rattle.sets.specs.Sets.{name_slots, held, is_full, PutIn, Holding, Without}
+use Rattle.std.specs.Prelude.{Result, is_err}
+use Rattle.sets.specs.declared.Full.{Full}
+use Rattle.sets.specs.Sets.{name_slots, held, PutIn, Holding, Without}
 use Rattle.sets.specs.Known.{section_words, NamesPut}
 use Rattle.sets.proofs.Holding.{put_other, same_start, same_next, holding-start, holding-next, holding-stop, holding-left}
 
@@ -65,7 +66,7 @@ names-start {file} {before} {from = from} {to = to} e h = record {
 }
 
 module _ {file before set : List ℕ} {class from at to : ℕ} (f : NamesPut file class from to before set at)
-    {after : List ℕ} {r : PutAnswer} {b : Bool} (p : PutIn (name_slots file) (class ∷ name_at file at) set after r) (e : b ≡ is_full r) where
+    {after : List ℕ} {r : Result Bool Full} {b : Bool} (p : PutIn (name_slots file) (class ∷ name_at file at) set after r) (e : b ≡ is_err r) where
   pub names-next : at < to → to ≤ length file → at + 1 + get_or file at 0 ≤ to → b ≡ false → NamesPut file class from to before after (at + 1 + get_or file at 0)
   names-next h l k q = record {
     inside = k;

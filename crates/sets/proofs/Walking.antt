@@ -4,7 +4,7 @@ use mathlib.Core.Bool.{Bool, true, false}
 use mathlib.Core.List.{List, ◌∷◌}
 use Prim.Native.Nat.{ℕ, ◌+◌, ◌*◌, ◌/◌, ◌%◌, ◌≤◌, ◌<◌}
 use native.Mathlib.Omega.{arith}
-use native.Mathlib.Decide.{dec_lt, ℕ_discrete}
+use native.Mathlib.Decide.{dec_lt}
 use lib.ListN.{length, get_or}
 use borrow.Author.Tests.{eq-eqb}
 use Rattle.names.specs.Words.{Bytes, same, one_of}
@@ -13,66 +13,45 @@ use Rattle.names.proofs.Words.{same-eq}
 use Rattle.sets.specs.declared.Sought.{Sought}
 use Rattle.sets.specs.declared.Sought.TheVariants as sought
 use Rattle.sets.specs.Hashes.{hash_of, tag_of, homes, home_of}
-use Rattle.sets.specs.Sets.{Slots, held, Reachable, Room, Ended}
+use Rattle.sets.specs.declared.Class.{Class}
+use Rattle.sets.specs.declared.Class.TheVariants.{Global, External, Flow, Function, Label, Temp, Gather}
+use Rattle.sets.specs.Sets.{number_of, Slots, held, Reachable, Room, Others, Walked, Looked, Ended}
 use Rattle.sets.proofs.Held.{slot-inside, Holds, held_at, held-some}
 
--- the slots from the word's home up to s have other names
-pub record Passed (k : Slots) (slots : List ℕ) (w : Bytes) (s : ℕ) : Type 0 where
-  pub home : home_of (length slots) w ≤ s
-  pub between : (j : ℕ) → home_of (length slots) w ≤ j → j < s → get_or slots j 0 ≡ 0 → ⊥
-  pub other : (j : ℕ) → home_of (length slots) w ≤ j → j < s → same w (k.word (get_or slots j 0)) ≡ false
-
-pub passed_start : {k : Slots} (slots : List ℕ) {w : Bytes} {hash s : ℕ} → hash ≡ hash_of w → s ≡ hash * homes (length slots) / 4294967296 → Passed k slots w s
+-- the home of a word by its hash
+pub home-of : (slots : ℕ) (w : Bytes) {hash home : ℕ} → hash ≡ hash_of w → home ≡ hash * homes slots / 4294967296 → home ≡ home_of slots w
 unfolding home_of
-passed_start slots {w} {s = s} p q =
-    let e : s ≡ home_of (length slots) w = rw (q, p) in
-    record { home = omega arith; between = λ j h l. absurd (omega arith); other = λ j h l. absurd (omega arith) }
+home-of slots w p q = rw (q, p)
 
-module _ {k : Slots} {slots : List ℕ} {w : Bytes} {s : ℕ} (p : Passed k slots w s) where
-  -- the slot s has another name
-  pub passed-next : {r : Bool} → (get_or slots s 0 ≡ 0 → ⊥) → r ≡ same w (k.word (get_or slots s 0)) → r ≡ false → Passed k slots w (s + 1)
-  passed-next z e f = record {
-    home = omega (arith, p.home);
-    between = λ j h l. filled j h l (ℕ_discrete j s);
-    other = λ j h l. another j h l (ℕ_discrete j s);
-  }
-    where
-      filled : (j : ℕ) → home_of (length slots) w ≤ j → j < s + 1 → Dec (j ≡ s) → get_or slots j 0 ≡ 0 → ⊥
-      filled j h l (yes q) = rw q z
-      filled j h l (no q) = p.between j h (omega arith)
-
-      another : (j : ℕ) → home_of (length slots) w ≤ j → j < s + 1 → Dec (j ≡ s) → same w (k.word (get_or slots j 0)) ≡ false
-      another j h l (yes q) = rw q (sym e ∙ f)
-      another j h l (no q) = p.other j h (omega arith)
-
+module _ {k : Slots} {slots : List ℕ} (w : Bytes) {home s : ℕ} (e : home ≡ home_of (length slots) w) (o : Others (Looked k slots w) home s) where
   -- the slot s is empty, or there is none
-  absent : Reachable k slots → (s < length slots → get_or slots s 0 ≡ 0) → one_of w (held k slots) ≡ false
+  absent : Reachable k slots → (s < length slots → (home ≤ s) × (get_or slots s 0 ≡ 0)) → one_of w (held k slots) ≡ false
   absent r h = is_false (one_of w (held k slots)) (λ t. not-held (held-some k w slots t))
     where
       not-held : Holds k w slots → ⊥
       not-held m =
-          let e : w ≡ k.word (get_or slots m.at 0) = same-eq w (k.word (get_or slots m.at 0)) m.name in
-          let from : home_of (length slots) w ≤ m.at = rw e (r.home m.at m.filled) in
-          by-slot (dec_lt m.at s) (dec_lt s m.at) e from
+          let q : w ≡ k.word (get_or slots m.at 0) = same-eq w (k.word (get_or slots m.at 0)) m.name in
+          let from : home ≤ m.at = rw (e, q) (r.home m.at m.filled) in
+          by-slot (dec_lt m.at s) (dec_lt s m.at) q from
         where
-          by-slot : Dec (m.at < s) → Dec (s < m.at) → w ≡ k.word (get_or slots m.at 0) → home_of (length slots) w ≤ m.at → ⊥
-          by-slot (yes l) g e from = rw (p.other m.at from l) at m.name
-          by-slot (no l) (yes g) e from =
-              let start : home_of (length slots) (k.word (get_or slots m.at 0)) ≤ s = rw (← e) p.home in
-              r.between m.at s m.filled start g (h (omega (arith, slot-inside slots m.at m.filled)))
-          by-slot (no l) (no g) e from =
-              let q : m.at ≡ s = omega arith in
-              m.filled (rw q (h (omega (arith, slot-inside slots m.at m.filled))))
+          by-slot : Dec (m.at < s) → Dec (s < m.at) → w ≡ k.word (get_or slots m.at 0) → home ≤ m.at → ⊥
+          by-slot (yes l) g q from = rw (o.other m.at from l).1 at m.name
+          by-slot (no l) (yes g) q from =
+              let here = h (omega (arith, slot-inside slots m.at m.filled)) in
+              let start : home_of (length slots) (k.word (get_or slots m.at 0)) ≤ s = rw (← q, ← e) here.0 in
+              r.between m.at s m.filled start g here.1
+          by-slot (no l) (no g) q from =
+              let p : m.at ≡ s = omega arith in
+              m.filled (rw p (h (omega (arith, slot-inside slots m.at m.filled))).1)
 
-  pub ended-vacant : Reachable k slots → s < length slots → get_or slots s 0 ≡ 0 → Ended k slots w (sought.Vacant s)
-  ended-vacant r l z = (absent r (λ _. z), record { inside = l; empty = z; home = p.home; between = p.between })
-
-  pub ended-exhausted : Reachable k slots → length slots ≤ s → Ended k slots w sought.Exhausted
-  ended-exhausted r l = absent r (λ g. absurd (omega arith))
-
-pub ended-found : (k : Slots) (slots : List ℕ) (w : Bytes) (s : ℕ) {r : Bool} → (get_or slots s 0 ≡ 0 → ⊥) → r ≡ same w (k.word (get_or slots s 0)) → r ≡ true
-    → Ended k slots w sought.Found
-ended-found k slots w s z e t = is_true (one_of w (held k slots)) (held_at k w slots s z (rw (← e, t) tt))
+-- a walk from a word's home that says of each slot whether it has the word
+pub walked-ended : (k : Slots) (slots : List ℕ) (w : Bytes) {home : ℕ} → home ≡ home_of (length slots) w → Reachable k slots
+    → (x : Sought) → Walked (Looked k slots w) home (length slots) x → Ended k slots w x
+walked-ended k slots w e r sought.Found h =
+    is_true (one_of w (held k slots)) (held_at k w slots h.0 h.2.0 (rw h.2.1 tt))
+walked-ended k slots w e r (sought.Vacant s) h =
+    (absent w e h.0 r (λ _. (h.1, h.3)), record { inside = h.2; empty = h.3; home = rw (← e) h.1; between = λ j g l. (h.0.other j (rw e g) l).0 })
+walked-ended k slots w e r sought.Exhausted h = absent w e h r (λ g. absurd (omega arith))
 
 -- a slot whose mark is not the word's has another name
 pub marks-differ : (k : Slots) (w : Bytes) (slot : ℕ) {mark : ℕ} → mark ≡ k.mark_of w → k.mark slot ≡ k.mark_of (k.word slot) → (k.mark slot ≡ mark → ⊥)
@@ -100,3 +79,13 @@ module _ (k : Slots) (slots : List ℕ) (w : Bytes) {r : Sought} (e : Ended k sl
 
   pub walk-exhausted : r ≡ sought.Exhausted → false ≡ one_of w (held k slots)
   walk-exhausted q = sym (rw q at e)
+
+-- a class has one of four numbers
+pub number-bound : (class : Class) → number_of class < 4
+number-bound Global = omega arith
+number-bound External = omega arith
+number-bound Flow = omega arith
+number-bound Function = omega arith
+number-bound Label = omega arith
+number-bound Temp = omega arith
+number-bound Gather = omega arith

@@ -1,14 +1,27 @@
 -- Sets of words: which words a set holds, and how each is reached. Assumes nothing.
-use Rattle.std.specs.Prelude.{ℕ, zero, suc, ◌-◌, ◌/◌, ◌%◌, ◌≤◌, ◌<◌, ◌≡◌, Bool, true, false, ◌||◌, List, [], ◌∷◌, length, get_or}
+use Rattle.std.specs.Prelude.{Result, Ok, Err, is_err, not, ℕ, zero, suc, ◌-◌, ◌/◌, ◌%◌, ◌≤◌, ◌<◌, ◌≡◌, Bool, true, false, ◌||◌, List, [], ◌∷◌, length, get_or}
 use Rattle.names.specs.Words.{Bytes, same, one_of, each}
 use Rattle.names.specs.Counted.{name_at}
 use Rattle.sets.specs.declared.Sought.{Sought}
 use Rattle.sets.specs.declared.Sought.TheVariants as sought
-use Rattle.sets.specs.declared.PutAnswer.{PutAnswer}
-use Rattle.sets.specs.declared.PutAnswer.TheVariants as put
+use Rattle.sets.specs.declared.Look.{Look}
+use Rattle.sets.specs.declared.Look.TheVariants as look
+use Rattle.sets.specs.declared.Class.{Class}
+use Rattle.sets.specs.declared.Class.TheVariants.{Global, External, Flow, Function, Label, Temp, Gather}
+use Rattle.sets.specs.declared.Full.{Full}
 use Rattle.sets.specs.Hashes.{tag_of, home_of}
 
 -- 1. Slots
+
+-- the number of a class in the slots of its set
+abbrev pub number_of : Class → ℕ
+number_of Global = 0
+number_of External = 1
+number_of Flow = 2
+number_of Function = 3
+number_of Label = 0
+number_of Temp = 1
+number_of Gather = 2
 
 -- how the number of a slot is read, which is not 0: its word, the mark that it bears, and the mark that a word has
 pub record Slots : Type 0 where
@@ -54,6 +67,22 @@ pub record Room (set : List ℕ) (w : Bytes) (s : ℕ) : Type 0 where
   pub home : home_of (length set) w ≤ s
   pub between : (j : ℕ) → home_of (length set) w ≤ j → j < s → get_or set j 0 ≡ 0 → ⊥
 
+-- each slot from the home up to `at` was looked at, and is another
+pub record Others (looked : ℕ → Look → Type 0) (home at : ℕ) : Type 0 where
+  pub other : (j : ℕ) → home ≤ j → j < at → looked j look.Other
+
+-- where a walk over slots ends, by what each that was looked at is
+abbrev pub Walked : (ℕ → Look → Type 0) → ℕ → ℕ → Sought → Type 0
+Walked looked home slots sought.Found = (at : ℕ) × (at < slots) × looked at look.Met
+Walked looked home slots (sought.Vacant at) = Others looked home at × (home ≤ at) × (at < slots) × looked at look.Empty
+Walked looked home slots sought.Exhausted = Others looked home slots
+
+-- what a slot is to a walk that looks for the word
+abbrev pub Looked : Slots → List ℕ → Bytes → ℕ → Look → Type 0
+Looked k set w at look.Empty = get_or set at 0 ≡ 0
+Looked k set w at look.Met = (get_or set at 0 ≡ 0 → ⊥) × (same w (k.word (get_or set at 0)) ≡ true)
+Looked k set w at look.Other = (get_or set at 0 ≡ 0 → ⊥) × (same w (k.word (get_or set at 0)) ≡ false)
+
 -- what the end of the walk over a word's slots says
 abbrev pub Ended : Slots → List ℕ → Bytes → Sought → Type 0
 Ended k set w sought.Found = one_of w (held k set) ≡ true
@@ -63,23 +92,16 @@ Ended k set w sought.Exhausted = one_of w (held k set) ≡ false
 -- 4. Putting a word
 
 -- the answer says that the word was held before
-abbrev pub was_held : PutAnswer → Bool
-was_held put.Added = false
-was_held put.Known = true
-was_held put.Full = false
-
--- the answer says that there was no room
-abbrev pub is_full : PutAnswer → Bool
-is_full put.Added = false
-is_full put.Known = false
-is_full put.Full = true
+abbrev pub was_held : Result Bool Full → Bool
+was_held (Ok new) = not new
+was_held (Err e) = false
 
 -- what the set holds after a word was put
-pub record PutIn (k : Slots) (word : Bytes) (before after : List ℕ) (r : PutAnswer) : Type 0 where
+pub record PutIn (k : Slots) (word : Bytes) (before after : List ℕ) (r : Result Bool Full) : Type 0 where
   pub reachable : Reachable k after
   pub was : was_held r ≡ one_of word (held k before)
-  pub holds : is_full r ≡ false → (w : Bytes) → one_of w (held k after) ≡ same w word || one_of w (held k before)
-  pub full : is_full r ≡ true → after ≡ before
+  pub holds : is_err r ≡ false → (w : Bytes) → one_of w (held k after) ≡ same w word || one_of w (held k before)
+  pub full : is_err r ≡ true → after ≡ before
 
 -- 5. Names of a class, put one after the other
 

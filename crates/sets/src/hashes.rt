@@ -1,6 +1,9 @@
 // The hash of a word, and its home: the slot from which on it is looked for.
 ghost use Rattle.std.specs.Prelude.{◌≡◌, ◌*◌, ◌/◌, ◌<◌, ◌∷◌};
 ghost use Rattle.sets.specs.Hashes.{hash_from, hash_of, homes};
+ghost use Rattle.sets.specs.Sets.{number_of};
+
+use crate::Class;
 
 // The hash with which every word begins.
 pub const START: usize = 2166136261;
@@ -11,10 +14,8 @@ pub fn hash_on(start: usize, word: &[u8]) -> usize
     ensures { (result ≡ hash_from start word.now) × (result < 4294967296) }
 {
     let mut hash = start;
-    let mut i = 0;
-    while i < word.len() {
-        hash = (hash + word[i] as usize) * 2654435761 % 4294967296;
-        i += 1;
+    for &byte in word {
+        hash = (hash + byte as usize) * 2654435761 % 4294967296;
     }
     hash
 }
@@ -27,22 +28,17 @@ pub fn hash_of(word: &[u8]) -> usize
 }
 
 // The hash of a name in a class, which stands before it as a byte does.
-pub fn hash_in(class: usize, name: &[u8]) -> usize
-    requires { class < 4 }
-    ensures { (result ≡ hash_of (class ∷ name.now)) × (result < 4294967296) }
+pub fn hash_in(class: Class, name: &[u8]) -> usize
+    ensures { (result ≡ hash_of (number_of class ∷ name.now)) × (result < 4294967296) }
 {
-    hash_on((START + class) * 2654435761 % 4294967296, name)
+    hash_on((START + class.number()) * 2654435761 % 4294967296, name)
 }
 
 // How many of so many slots are homes: seven of eight, so that a name whose home is the last of them has room too.
 pub fn home_count(slots: usize) -> usize
     ensures { (result ≡ homes slots) × (result < 4294967296) }
 {
-    let many = slots - slots / 8;
-    if many < 4294967296 {
-        return many;
-    }
-    4294967295
+    (slots - slots / 8).min(4294967295)
 }
 
 // The home of a hash among so many slots, by its high bits.
@@ -50,6 +46,5 @@ pub fn home_of(hash: usize, slots: usize) -> usize
     requires { hash < 4294967296 }
     ensures { result ≡ hash * homes slots / 4294967296 }
 {
-    let many = home_count(slots);
-    hash * many / 4294967296
+    hash * home_count(slots) / 4294967296
 }

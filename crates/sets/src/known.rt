@@ -1,25 +1,16 @@
 // The names of the whole story in one set: globals, externals, flows and functions, each in its class, as far as there is room.
-ghost use Rattle.std.specs.Prelude.{◌≡◌, ◌≤◌, ◌<◌, length};
+ghost use Rattle.std.specs.Prelude.{◌≡◌, ◌≤◌, ◌<◌, length, is_err};
 ghost use Rattle.names.specs.Words.{any, one_of};
 ghost use Rattle.story.specs.Story.{words};
 ghost use Rattle.story.specs.File.{InOrder, story_in};
 ghost use Rattle.searches.specs.Called.{is_flow, is_function};
-ghost use Rattle.sets.specs.Sets.{name_slots, Reachable, Without};
+ghost use Rattle.sets.specs.Sets.{number_of, name_slots, Reachable, Without};
 ghost use Rattle.sets.specs.Known.{NamesPut, FlowPut, FlowsPut, NamesIn};
 
-use crate::{clear, has, is_full, put};
-use searches::views::{FlowView, FlowViewRead, flow_view};
+use crate::{Class, Full, clear, has, put};
+use searches::views::{FlowView, flow_view};
 use searches::{is_flow_name, is_function_name, section_has_name};
 use story::Sections;
-
-// The classes.
-pub const GLOBAL: usize = 0;
-
-pub const EXTERNAL: usize = 1;
-
-pub const FLOW: usize = 2;
-
-pub const FUNCTION: usize = 3;
 
 // The offsets from which on the names of the globals, of the externals and of the flows are not in the set.
 #[derive(Clone, Copy)]
@@ -30,10 +21,10 @@ pub struct Names {
 }
 
 // Puts the names of a section into the set, in the class, up to the first for which there is no room. The answer is the offset of that name.
-fn put_names(file: &[u8], class: usize, from: usize, to: usize, set: &mut [u32]) -> usize
-    requires from_le_to { (from ≤ to) × (to ≤ length file.now) × (to ≤ 1048576) × (class < 4) }
-    requires without { Without (name_slots file.now) class set.old }
-    ensures { NamesPut file.now class from to set.old set.new result }
+fn put_names(file: &[u8], class: Class, from: usize, to: usize, set: &mut [u32]) -> usize
+    requires from_le_to { (from ≤ to) × (to ≤ length file.now) × (to ≤ 1048576) }
+    requires without { Without (name_slots file.now) (number_of class) set.old }
+    ensures { NamesPut file.now (number_of class) from to set.old set.new result }
 {
     let mut at = from;
     while at < to {
@@ -41,7 +32,7 @@ fn put_names(file: &[u8], class: usize, from: usize, to: usize, set: &mut [u32])
         if to < next {
             return at;
         }
-        if is_full(put(file, at, class, set)) {
+        if put(file, at, class, set).is_err() {
             return at;
         }
         at = next;
@@ -49,19 +40,17 @@ fn put_names(file: &[u8], class: usize, from: usize, to: usize, set: &mut [u32])
     at
 }
 
-// Puts the name of a flow, and once more as a function's where it is one. The answer is that there was no room.
-fn put_flow(file: &[u8], v: FlowView, set: &mut [u32]) -> bool
+// Puts the name of a flow, and once more as a function's where it is one.
+fn put_flow(file: &[u8], v: FlowView, set: &mut [u32]) -> Result<(), Full>
     requires name_bound { v.name < 1048576 }
     requires reachable { Reachable (name_slots file.now) set.old }
-    ensures { FlowPut file.now v set.old set.new result }
+    ensures { FlowPut file.now v set.old set.new (is_err result) }
 {
-    if is_full(put(file, v.name, FLOW, set)) {
-        return true;
-    }
+    put(file, v.name, Class::Flow, set)?;
     if v.function {
-        return is_full(put(file, v.name, FUNCTION, set));
+        put(file, v.name, Class::Function, set)?;
     }
-    false
+    Ok(())
 }
 
 // Puts the names of the flows, up to the first for which there is no room. The answer is the offset of that flow.
@@ -72,15 +61,13 @@ fn put_flows(file: &[u8], c: Sections, set: &mut [u32]) -> usize
     ensures { FlowsPut file.now c set.old set.new result }
 {
     let mut at = c.flows;
-    loop {
-        let FlowViewRead::View(v) = flow_view(file, at, c.end) else {
-            return at;
-        };
-        if put_flow(file, v, set) {
+    while let Some(v) = flow_view(file, at, c.end) {
+        if put_flow(file, v, set).is_err() {
             return at;
         }
         at = v.end;
     }
+    at
 }
 
 // Empties the set, and puts the names of the story.
@@ -89,8 +76,8 @@ pub fn put_known(file: &[u8], c: Sections, set: &mut [u32]) -> Names
     ensures { NamesIn file.now c set.new result }
 {
     clear(set);
-    let globals = put_names(file, GLOBAL, 0, c.externals, set);
-    let externals = put_names(file, EXTERNAL, c.externals, c.root, set);
+    let globals = put_names(file, Class::Global, 0, c.externals, set);
+    let externals = put_names(file, Class::External, c.externals, c.root, set);
     let flows = put_flows(file, c, set);
     Names {
         globals,
@@ -105,12 +92,7 @@ pub fn is_global(file: &[u8], c: Sections, set: &[u32], n: Names, name: &[u8]) -
     requires names_in { NamesIn file.now c set.now n }
     ensures { result ≡ one_of name.now (words (story_in c file.now).globals) }
 {
-    if has(file, set, GLOBAL, name) {
-        return true;
-    }
-    let rest = n.globals;
-    let end = c.externals;
-    section_has_name(&file[rest..end], name)
+    has(file, set, Class::Global, name) || section_has_name(&file[n.globals..c.externals], name)
 }
 
 // The name is an external's.
@@ -119,12 +101,7 @@ pub fn is_external(file: &[u8], c: Sections, set: &[u32], n: Names, name: &[u8])
     requires names_in { NamesIn file.now c set.now n }
     ensures { result ≡ one_of name.now (words (story_in c file.now).externals) }
 {
-    if has(file, set, EXTERNAL, name) {
-        return true;
-    }
-    let rest = n.externals;
-    let end = c.root;
-    section_has_name(&file[rest..end], name)
+    has(file, set, Class::External, name) || section_has_name(&file[n.externals..c.root], name)
 }
 
 // The name is a flow's.
@@ -133,12 +110,7 @@ pub fn is_flow(file: &[u8], c: Sections, set: &[u32], n: Names, name: &[u8]) -> 
     requires names_in { NamesIn file.now c set.now n }
     ensures { result ≡ any (is_flow name.now) (story_in c file.now).flows }
 {
-    if has(file, set, FLOW, name) {
-        return true;
-    }
-    let rest = n.flows;
-    let end = c.end;
-    is_flow_name(&file[rest..end], name)
+    has(file, set, Class::Flow, name) || is_flow_name(&file[n.flows..c.end], name)
 }
 
 // The name is a function's.
@@ -147,10 +119,5 @@ pub fn is_function(file: &[u8], c: Sections, set: &[u32], n: Names, name: &[u8])
     requires names_in { NamesIn file.now c set.now n }
     ensures { result ≡ any (is_function name.now) (story_in c file.now).flows }
 {
-    if has(file, set, FUNCTION, name) {
-        return true;
-    }
-    let rest = n.flows;
-    let end = c.end;
-    is_function_name(&file[rest..end], name)
+    has(file, set, Class::Function, name) || is_function_name(&file[n.flows..c.end], name)
 }

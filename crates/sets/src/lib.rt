@@ -3,11 +3,11 @@
 // slot that was empty from its home on; the slots are not gone round, and every slot up to the last is tried.
 #![tactic(auto)]
 
-ghost use Rattle.std.specs.Prelude.{◌≡◌, ◌∷◌, ◌<◌};
+ghost use Rattle.std.specs.Prelude.{◌≡◌, ◌∷◌, ◌<◌, ℕ, length};
 ghost use Rattle.names.specs.Words.{same, one_of};
 ghost use Rattle.names.specs.Counted.{name_at};
 ghost use Rattle.sets.specs.Hashes.{hash_of, tag_of};
-ghost use Rattle.sets.specs.Sets.{name_slots, held, Empty, Reachable, Ended, PutIn, is_full};
+ghost use Rattle.sets.specs.Sets.{number_of, name_slots, held, Empty, Reachable, Walked, Looked, Ended, PutIn};
 
 use hashes::{hash_in, home_of};
 use names::{name_at, same_at};
@@ -16,106 +16,132 @@ pub mod hashes;
 pub mod known;
 pub mod members;
 
+// The classes of names: four of the story's names, and three of the items of a knot or of a body, which stand in other sets.
+#[derive(Clone, Copy, PartialEq, Eq)]
+pub enum Class {
+    Global,
+    External,
+    Flow,
+    Function,
+    Label,
+    Temp,
+    Gather,
+}
+
+impl Class {
+    // The number of a class in the slots of its set.
+    pub fn number(self) -> usize
+        ensures { (result ≡ number_of self) × (result < 4) }
+    {
+        match self {
+            Class::Global | Class::Label => 0,
+            Class::External | Class::Temp => 1,
+            Class::Flow | Class::Gather => 2,
+            Class::Function => 3,
+        }
+    }
+}
+
+// What a slot is to a walk that looks for a word: empty, with the word, or with another.
+#[derive(Clone, Copy, PartialEq, Eq)]
+pub enum Look {
+    Empty,
+    Met,
+    Other,
+}
+
 // Where the walk over the slots of a word ends: at the word, at an empty slot, or past the last slot.
-#[derive(Clone, Copy)]
+#[derive(Clone, Copy, PartialEq, Eq)]
 pub enum Sought {
     Found,
     Vacant(usize),
     Exhausted,
 }
 
-// What became of a name: the set has it now, had it before, or has no room for it.
-#[derive(Clone, Copy)]
-pub enum PutAnswer {
-    Added,
-    Known,
-    Full,
-}
-
-// There was no room for the name.
-pub fn is_full(answer: PutAnswer) -> bool
-    ensures { result ≡ is_full answer }
-{
-    match answer {
-        PutAnswer::Added => false,
-        PutAnswer::Known => false,
-        PutAnswer::Full => true,
-    }
-}
+// A set has no room for a name.
+#[derive(Clone, Copy, PartialEq, Eq)]
+pub struct Full;
 
 // Makes every slot of a set empty.
 pub fn clear(set: &mut [u32])
     ensures { Empty set.new }
 {
-    let mut i = 0;
-    while i < set.len() {
-        set[i] = 0;
-        i += 1;
-    }
+    set.fill(0);
 }
 
-// The slot has the name in the class, whose tag this is. The file is read only where the tags are the same.
-fn holds(file: &[u8], slot: usize, class: usize, tag: usize, name: &[u8]) -> bool
-    requires { (slot ≡ 0 → ⊥) × (class < 4) × (tag ≡ tag_of (class ∷ name.now)) × ((name_slots file.now).mark slot ≡ tag_of ((name_slots file.now).word slot)) }
-    ensures { result ≡ same (class ∷ name.now) ((name_slots file.now).word slot) }
+// Looks at slot after slot, from the home of a word up to the word or an empty slot.
+pub fn walk<F: Fn(usize) -> Look>(home: usize, slots: usize, look: F) -> Sought
+    requires { (at : ℕ) → at < slots → F.pre look at }
+    ensures { Walked (F.post look) home slots result }
 {
-    let number = slot - 1;
-    if number / 1048576 != tag {
-        return false;
-    }
-    same_at(file, number % 1048576, name)
-}
-
-// Goes over the slots of a name in the class with this hash, from its home up to the name or an empty slot.
-fn seek(file: &[u8], set: &[u32], class: usize, name: &[u8], hash: usize) -> Sought
-    requires class_bound { (class < 4) × (hash ≡ hash_of (class ∷ name.now)) × (hash < 4294967296) }
-    requires reachable { Reachable (name_slots file.now) set.now }
-    ensures { Ended (name_slots file.now) set.now (class ∷ name.now) result }
-{
-    let tag = class + 4 * (hash % 512);
-    let mut at = home_of(hash, set.len());
-    while at < set.len() {
-        let slot = set[at] as usize;
-        if slot == 0 {
-            return Sought::Vacant(at);
+    for at in home..slots {
+        match look(at) {
+            Look::Empty => return Sought::Vacant(at),
+            Look::Met => return Sought::Found,
+            Look::Other => {}
         }
-        if holds(file, slot, class, tag, name) {
-            return Sought::Found;
-        }
-        at += 1;
     }
     Sought::Exhausted
 }
 
-// The name is one of those that the set holds in the class.
-pub fn has(file: &[u8], set: &[u32], class: usize, name: &[u8]) -> bool
-    requires class_bound { class < 4 }
-    requires reachable { Reachable (name_slots file.now) set.now }
-    ensures { result ≡ one_of (class ∷ name.now) (held (name_slots file.now) set.now) }
+// The slot has the name in the class, whose tag this is. The file is read only where the tags are the same.
+fn holds(file: &[u8], slot: usize, class: Class, tag: usize, name: &[u8]) -> bool
+    requires { (slot ≡ 0 → ⊥) × (tag ≡ tag_of (number_of class ∷ name.now)) × ((name_slots file.now).mark slot ≡ tag_of ((name_slots file.now).word slot)) }
+    ensures { result ≡ same (number_of class ∷ name.now) ((name_slots file.now).word slot) }
 {
-    let found = seek(file, set, class, name, hash_in(class, name));
-    match found {
-        Sought::Found => true,
-        Sought::Vacant(_) => false,
-        Sought::Exhausted => false,
-    }
+    let number = slot - 1;
+    number / 1048576 == tag && same_at(file, number % 1048576, name)
 }
 
-// Puts the name whose count byte stands at the place into the set, in the class, unless the set holds it there or has no room from its home on.
-pub fn put(file: &[u8], place: usize, class: usize, set: &mut [u32]) -> PutAnswer
-    requires place_bound { (place < 1048576) × (class < 4) }
+// Goes over the slots of a name in the class with this hash, from its home up to the name or an empty slot.
+fn seek(file: &[u8], set: &[u32], class: Class, name: &[u8], hash: usize) -> Sought
+    requires hash_value { (hash ≡ hash_of (number_of class ∷ name.now)) × (hash < 4294967296) }
+    requires reachable { Reachable (name_slots file.now) set.now }
+    ensures { Ended (name_slots file.now) set.now (number_of class ∷ name.now) result }
+{
+    let tag = class.number() + 4 * (hash % 512);
+    let look = |at: usize| -> Look
+        requires in_bounds { (at < length set.now) × (tag ≡ tag_of (number_of class ∷ name.now)) }
+        requires reachable { Reachable (name_slots file.now) set.now }
+        ensures { Looked (name_slots file.entry.now) set.entry.now (number_of class ∷ name.entry.now) at result }
+    {
+        let slot = set[at] as usize;
+        if slot == 0 {
+            Look::Empty
+        } else if holds(file, slot, class, tag, name) {
+            Look::Met
+        } else {
+            Look::Other
+        }
+    };
+    walk(home_of(hash, set.len()), set.len(), look)
+}
+
+// The name is one of those that the set holds in the class.
+pub fn has(file: &[u8], set: &[u32], class: Class, name: &[u8]) -> bool
+    requires { Reachable (name_slots file.now) set.now }
+    ensures { result ≡ one_of (number_of class ∷ name.now) (held (name_slots file.now) set.now) }
+{
+    let found = seek(file, set, class, name, hash_in(class, name));
+    matches!(found, Sought::Found)
+}
+
+// Puts the name whose count byte stands at the place into the set, in the class, unless the set holds it there or has no room from its home
+// on. The answer is that the name is new.
+pub fn put(file: &[u8], place: usize, class: Class, set: &mut [u32]) -> Result<bool, Full>
+    requires place_bound { place < 1048576 }
     requires reachable { Reachable (name_slots file.now) set.old }
-    ensures { PutIn (name_slots file.now) (class ∷ name_at file.now place) set.old set.new result }
+    ensures { PutIn (name_slots file.now) (number_of class ∷ name_at file.now place) set.old set.new result }
 {
     let name = name_at(file, place);
     let hash = hash_in(class, name);
     let found = seek(file, set, class, name, hash);
     match found {
-        Sought::Found => PutAnswer::Known,
+        Sought::Found => Ok(false),
         Sought::Vacant(slot) => {
-            set[slot] = (1 + (place + (class + 4 * (hash % 512)) * 1048576)) as u32;
-            PutAnswer::Added
+            set[slot] = (1 + (place + (class.number() + 4 * (hash % 512)) * 1048576)) as u32;
+            Ok(true)
         }
-        Sought::Exhausted => PutAnswer::Full,
+        Sought::Exhausted => Err(Full),
     }
 }

@@ -4,10 +4,10 @@ ghost use Rattle.story.specs.Story.{whats};
 ghost use Rattle.items.specs.Bodies.{items_at};
 ghost use Rattle.items.specs.Search.{found_among};
 ghost use Rattle.items.specs.Standing.{NamesStand};
-ghost use Rattle.sets.specs.Sets.{name_slots, Without};
+ghost use Rattle.sets.specs.Sets.{number_of, name_slots, Without};
 ghost use Rattle.sets.specs.Members.{Members, MembersPut};
 
-use crate::{has, is_full, put};
+use crate::{Class, Full, has, put};
 use items::items::named_at;
 use items::named::{Sought, found_in, is_of_sort};
 
@@ -19,39 +19,36 @@ pub fn put_next(
     items: &[u32],
     i: usize,
     rest: usize,
-    class: usize,
+    class: Class,
     set: &mut [u32],
 ) -> usize
-    requires class_bound { (class < 4) × (i < length items.now) }
+    requires in_bounds { i < length items.now }
     requires names_stand { NamesStand file.now items.now }
-    requires members { Members sought file.now class items.now i set.old rest }
-    ensures { MembersPut sought file.now class items.now (i + 1) set.old set.new result }
+    requires members { Members sought file.now (number_of class) items.now i set.old rest }
+    ensures { MembersPut sought file.now (number_of class) items.now (i + 1) set.old set.new result }
 {
     if rest < i {
         return rest;
     }
     let item = items[i];
-    if is_of_sort(sought, item) {
-        if is_full(put(file, named_at(item), class, set)) {
-            return i;
-        }
+    if !is_of_sort(sought, item) {
         return i + 1;
     }
-    i + 1
+    match put(file, named_at(item), class, set) {
+        Ok(_) => i + 1,
+        Err(Full) => i,
+    }
 }
 
 // Puts the names of all items of the sought sort. The answer is the number of the item from which on nothing is in the set.
-pub fn put_items(sought: Sought, file: &[u8], items: &[u32], class: usize, set: &mut [u32]) -> usize
-    requires class_bound { class < 4 }
+pub fn put_items(sought: Sought, file: &[u8], items: &[u32], class: Class, set: &mut [u32]) -> usize
     requires names_stand { NamesStand file.now items.now }
-    requires without { Without (name_slots file.now) class set.old }
-    ensures { MembersPut sought file.now class items.now (length items.now) set.old set.new result }
+    requires without { Without (name_slots file.now) (number_of class) set.old }
+    ensures { MembersPut sought file.now (number_of class) items.now (length items.now) set.old set.new result }
 {
     let mut rest = 0;
-    let mut i = 0;
-    while i < items.len() {
+    for i in 0..items.len() {
         rest = put_next(sought, file, items, i, rest, class, set);
-        i += 1;
     }
     rest
 }
@@ -63,16 +60,12 @@ pub fn has_among(
     items: &[u32],
     i: usize,
     rest: usize,
-    class: usize,
+    class: Class,
     set: &[u32],
     name: &[u8],
 ) -> bool
-    requires class_bound { class < 4 }
-    requires members { Members sought file.now class items.now i set.now rest }
+    requires members { Members sought file.now (number_of class) items.now i set.now rest }
     ensures { result ≡ found_among sought (whats (items_at file.now (take i items.now))) name.now }
 {
-    if has(file, set, class, name) {
-        return true;
-    }
-    found_in(sought, file, &items[rest..i], name)
+    has(file, set, class, name) || found_in(sought, file, &items[rest..i], name)
 }

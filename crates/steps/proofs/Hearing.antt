@@ -2,13 +2,14 @@
 use mathlib.Core.Path.{◌≡◌, refl, sym, ap, ◌∙◌}
 use mathlib.Core.Bool.{Bool, true, false}
 use mathlib.Core.List.{List, [], ◌∷◌, ◌++◌}
-use Prim.Native.Nat.{ℕ, suc, ◌+◌, ◌-◌, ◌*◌, ◌/◌, ◌%◌, ◌≤◌, ◌<◌}
+use Prim.Native.Nat.{ℕ, suc, min, ◌+◌, ◌-◌, ◌*◌, ◌/◌, ◌%◌, ◌≤◌, ◌<◌}
 use native.Mathlib.Omega.{arith}
 use native.Mathlib.Nat.{add-zero}
 use lib.ListN.{length, set}
 use lib.Seq.{sets}
 use lib.Dec.{leb, ltb}
-use borrow.Author.Tests.{ltb-false, leb-true, leb-false, lt-ltb, le-ltb}
+use borrow.Author.Tests.{ltb-true, ltb-false, leb-true, leb-false, lt-ltb, le-ltb}
+use Rattle.std.specs.Prelude.{Some}
 use Rattle.fields.specs.Bytes.{pick}
 use Rattle.rules.specs.declared.Rule.{Rule}
 use Rattle.rules.specs.Rules.{number}
@@ -37,6 +38,15 @@ onward-before instance many h = by-test (ltb many (4294967295 - instance)) refl
 pub onward-past : (instance many : ℕ) → instance ≤ 4294967295 → 4294967295 - instance ≤ many → onward instance many ≡ 4294967295
 unfolding onward
 onward-past instance many l h = rw (le-ltb many (4294967295 - instance) h) (omega arith)
+
+-- as the function finds it
+pub onward-least : (instance many : ℕ) → instance + min many (4294967295 - instance) ≡ onward instance many
+unfolding onward
+onward-least instance many = by-test (ltb many (4294967295 - instance)) refl
+  where
+    by-test : (b : Bool) → ltb many (4294967295 - instance) ≡ b → instance + min many (4294967295 - instance) ≡ instance + pick b many (4294967295 - instance)
+    by-test true e = omega (arith, ltb-true many (4294967295 - instance) e)
+    by-test false e = omega (arith, ltb-false many (4294967295 - instance) e)
 
 -- one more, and then more, is as many together
 pub onward-onward : (instance m n : ℕ) → onward (onward instance m) n ≡ onward instance (m + n)
@@ -176,7 +186,7 @@ module _ (t : Tally) {f : Bool} (e : f ≡ is_full t) where
 
   pub hears-one : f ≡ false → (r : Rule) (place : ℕ) (names : ℕ × ℕ) {n : Names} → n ≡ names_at names → {k : ℕ} → k ≡ number r
       → (list : List ℕ) {list' : List ℕ} → list' ≡ written t.count k t.instance place list
-      → heard (record { limit = t.limit; count = t.count + 1; instance = t.instance; rule = r; place = place; first = n.first; second = n.second }) list'
+      → heard (record { limit = t.limit; count = t.count + 1; instance = t.instance; last = Some (record { rule = r; place = place; names = n }) }) list'
       ≡ hear (heard t list) (breach_of t.instance r place names)
   hears-one g r place names a b list l =
       rw (a, l, b) (sym (hear-room (heard t list) (sym e ∙ g) (breach_of t.instance r place names)))

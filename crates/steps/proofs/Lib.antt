@@ -1,7 +1,7 @@
 -- The laws on what is heard along the runs of a story.
-pub mod ByNumber
 pub mod Hearing
 pub mod Runs
+pub mod Next
 pub mod Order
 pub mod Visiting
 pub mod Before
@@ -11,7 +11,6 @@ pub mod All
 pub mod Filled
 pub mod Places
 pub mod Seen
-pub mod Table
 pub mod Visited
 pub mod Bearing
 pub mod Turning
@@ -20,7 +19,6 @@ pub mod LookBody
 pub mod Naming
 pub mod Coursing
 pub mod Idle
-pub mod Courses
 pub mod Stories
 pub mod Knots
 pub mod Roots

@@ -6,12 +6,13 @@ use Prim.Native.Nat.{ℕ, zero, suc, ◌+◌, ◌≤◌, ◌<◌}
 use native.Mathlib.Omega.{arith}
 use native.Mathlib.Numerals.{add-one}
 use lib.ListN.{length, length-map, get_or, take, drop}
+use Rattle.story.specs.declared.Sections.{Sections}
 use Rattle.names.specs.Counted.{name_at}
 use Rattle.records.specs.Items.{What}
 use Rattle.records.specs.Numbers.{item_in}
 use Rattle.story.specs.Story.{whats}
 use Rattle.items.specs.declared.named.Sought.TheVariants as sought
-use Rattle.items.specs.Bodies.{items_at}
+use Rattle.items.specs.Bodies.{items_at, Kept}
 use Rattle.items.specs.Standing.{NamesStand}
 use Rattle.items.proofs.Standing.{kept-names-stand, stand-part}
 use Rattle.sets.specs.Members.{Members, MembersPut}
@@ -55,55 +56,53 @@ like-clear k h before {file} {t} {w} l rs e =
 -- 2. While the look lasts
 
 -- before item number i nothing is broken, and the gathers are in the set but for those from number `rest` on
-pub record Looked (file kept : List ℕ) (at : At) (rs : List Rule) (body : List ℕ) (rest i : ℕ) : Type 0 where
+pub record Looked (sections : Sections) (file kept : List ℕ) (at : At) (rs : List Rule) (body : List ℕ) (rest i : ℕ) : Type 0 where
   pub temps : Members sought.Temp file 1 (body_run kept at.scope) (length (body_run kept at.scope)) body at.rests.own
   pub gathers : Members sought.Gather file 2 (body_run kept at.scope) i body rest
-  pub unbroken : Unbroken (known_in at.story.sections file) (here_in file kept at.scope) rs (items_at file (body_run kept at.scope)) i
+  pub unbroken : Unbroken (known_in sections file) (here_in file kept at.scope) rs (items_at file (body_run kept at.scope)) i
 
-module _ {file kept names targets knot start : List ℕ} {at : At} (ready : LookReady file kept names targets knot start at) where
+module _ {sections : Sections} {file kept knot start : List ℕ} {at : At} (read : Kept file sections kept) (ready : LookReady file kept knot start at) where
   -- the names of the body's items stand
   pub look-names : NamesStand file (body_run kept at.scope)
-  look-names = stand-part (kept-names-stand ready.targets_ready.read) at.scope.first at.scope.last
+  look-names = stand-part (kept-names-stand read) at.scope.first at.scope.last
 
   -- before the first item
-  pub look-start : (rs : List Rule) → Looked file kept at rs start 0 0
+  pub look-start : (rs : List Rule) → Looked sections file kept at rs start 0 0
   look-start rs = record {
     temps = ready.body_set.temps;
     gathers = subst (λ (n : ℕ). Members sought.Gather file 2 (body_run kept at.scope) 0 start n) (omega (arith, ready.body_set.gathers.inside)) ready.body_set.gathers;
-    unbroken = unbroken-start (known_in at.story.sections file) (here_in file kept at.scope) rs (items_at file (body_run kept at.scope));
+    unbroken = unbroken-start (known_in sections file) (here_in file kept at.scope) rs (items_at file (body_run kept at.scope));
   }
 
-  module _ {rs : List Rule} {body : List ℕ} {gathers i : ℕ} (looked : Looked file kept at rs body gathers i) where
+  module _ {rs : List Rule} {body : List ℕ} {gathers i : ℕ} (looked : Looked sections file kept at rs body gathers i) where
     -- no item is left
-    pub look-end : length (body_run kept at.scope) ≤ i → true ≡ clear_along (known_in at.story.sections file) (here_in file kept at.scope) rs [] (items_at file (body_run kept at.scope))
+    pub look-end : length (body_run kept at.scope) ≤ i → true ≡ clear_along (known_in sections file) (here_in file kept at.scope) rs [] (items_at file (body_run kept at.scope))
     look-end h = unbroken-end looked.unbroken (omega (arith, length-map (body_run kept at.scope) (item_in file)))
 
     module _ {thing : Thing} {here : At} (e : here ≡ at_item at gathers thing i) where
       -- all is ready at the item
-      pub look-ready : Ready file kept names targets knot body here
+      pub look-ready : Ready file kept knot body here
       look-ready = rw e (record {
-        names_ready = ready.names_ready;
-        targets_ready = ready.targets_ready;
         scope_ready = ready.scope_ready;
         knot_set = record { labels = ready.knot_set.labels; temps = ready.knot_set.temps };
         body_set = record { temps = looked.temps; gathers = looked.gathers };
       })
 
-      module _ (h : i < length (body_run kept at.scope)) (t : thing ≡ thing_of (get_or (body_run kept at.scope) i 0)) {b : Bool} (c : ClearAt file kept here rs b) where
+      module _ (h : i < length (body_run kept at.scope)) (t : thing ≡ thing_of (get_or (body_run kept at.scope) i 0)) {b : Bool} (c : ClearAt sections file kept here rs b) where
         -- what was answered at the item
-        look-item : b ≡ clear_of (known_in at.story.sections file) (here_in file kept at.scope) rs (take i (whats (items_at file (body_run kept at.scope)))) (item_in file (get_or (body_run kept at.scope) i 0)).what
+        look-item : b ≡ clear_of (known_in sections file) (here_in file kept at.scope) rs (take i (whats (items_at file (body_run kept at.scope)))) (item_in file (get_or (body_run kept at.scope) i 0)).what
         look-item =
             let x = get_or (body_run kept at.scope) i 0 in
-            let d : ClearAt file kept (at_item at gathers thing i) rs b = rw e at c in
-            let bears = run-bears ready.targets_ready.read at.scope.first at.scope.last h in
-            like-clear (known_in at.story.sections file) (here_in file kept at.scope) (take i (whats (items_at file (body_run kept at.scope)))) (rw t (like-thing file x bears)) rs d.says
+            let d : ClearAt sections file kept (at_item at gathers thing i) rs b = rw e at c in
+            let bears = run-bears read at.scope.first at.scope.last h in
+            like-clear (known_in sections file) (here_in file kept at.scope) (take i (whats (items_at file (body_run kept at.scope)))) (rw t (like-thing file x bears)) rs d.says
 
         -- some rule is broken there
-        pub look-broken : b ≡ false → false ≡ clear_along (known_in at.story.sections file) (here_in file kept at.scope) rs [] (items_at file (body_run kept at.scope))
+        pub look-broken : b ≡ false → false ≡ clear_along (known_in sections file) (here_in file kept at.scope) rs [] (items_at file (body_run kept at.scope))
         look-broken f = unbroken-broken looked.unbroken (drop-item file (body_run kept at.scope) i h) look-item f
 
         -- none is: on to the next
-        pub look-next : {after : List ℕ} {rest : ℕ} → b ≡ true → MembersPut sought.Gather file 2 (body_run kept at.scope) (i + 1) body after rest → Looked file kept at rs after rest (i + 1)
+        pub look-next : {after : List ℕ} {rest : ℕ} → b ≡ true → MembersPut sought.Gather file 2 (body_run kept at.scope) (i + 1) body after rest → Looked sections file kept at rs after rest (i + 1)
         look-next f p = record {
           temps = members-same looked.temps (p.others 1 (λ z. omega arith)) p.members.reachable;
           gathers = p.members;

@@ -1,9 +1,10 @@
 -- The rules of a look: those of the steps that it stands for are among them, and at a thing only those of its sort can be broken. Assumes nothing.
 use mathlib.Core.Path.{◌≡◌, refl, sym, ap, ◌∙◌}
-use mathlib.Core.Bool.{Bool, true, false, not, ◌&&◌, ◌||◌, and-true, true≢false}
+use mathlib.Core.Bool.{Bool, true, false, not, ◌&&◌, ◌||◌, true≢false}
 use mathlib.Core.List.{List, [], ◌∷◌, map}
 use Prim.Native.Nat.{ℕ}
 use lib.ListN.{get_or}
+use Rattle.story.specs.declared.Sections.{Sections}
 use Rattle.fields.specs.Bytes.{pick}
 use Rattle.names.specs.Words.{each}
 use Rattle.records.specs.Items.{Kind, plain, temp, divert, tunnel, thread, call, variable, argument, choice, gather, parameter, stitch_name, flow_start, code, What, is}
@@ -13,9 +14,9 @@ use Rattle.rules.specs.Rules.{Known, Here, broken}
 use Rattle.rules.specs.Steps.{bracket, root_steps, flow_steps, stitch_steps, s19, s20}
 use Rattle.broken.specs.declared.At.{At}
 use Rattle.broken.specs.Things.{ThingIs}
-use Rattle.broken.specs.Scopes.{known_in, here_in, before_at}
+use Rattle.broken.specs.Scopes.{known_in, here_in, before_at, broken_at}
 use Rattle.steps.specs.Clear.{clear_of, among}
-use Rattle.steps.specs.Looks.{look_rules, can_break, of_sort, lone_rule, look_table, ClearAt}
+use Rattle.steps.specs.Looks.{look_rules, can_break, of_sort, look_table, ClearAt}
 
 -- 1. The steps that a look stands for
 
@@ -117,77 +118,62 @@ look-table false true = refl
 look-table true false = refl
 look-table true true = refl
 
+-- the table has those of a thing's sort
+looked : (inner function : Bool) (kind : Kind) → of_sort (code kind) (look_rules inner function) ≡ get_or (look_table inner function) (code kind) []
+looked inner function plain = ap (λ (l : List (List Rule)). get_or l 0 []) (look-table inner function)
+looked inner function temp = ap (λ (l : List (List Rule)). get_or l 1 []) (look-table inner function)
+looked inner function divert = ap (λ (l : List (List Rule)). get_or l 2 []) (look-table inner function)
+looked inner function tunnel = ap (λ (l : List (List Rule)). get_or l 3 []) (look-table inner function)
+looked inner function thread = ap (λ (l : List (List Rule)). get_or l 4 []) (look-table inner function)
+looked inner function call = ap (λ (l : List (List Rule)). get_or l 5 []) (look-table inner function)
+looked inner function variable = ap (λ (l : List (List Rule)). get_or l 6 []) (look-table inner function)
+looked inner function argument = ap (λ (l : List (List Rule)). get_or l 7 []) (look-table inner function)
+looked inner function choice = ap (λ (l : List (List Rule)). get_or l 8 []) (look-table inner function)
+looked inner function gather = ap (λ (l : List (List Rule)). get_or l 9 []) (look-table inner function)
+looked inner function parameter = ap (λ (l : List (List Rule)). get_or l 10 []) (look-table inner function)
+looked inner function stitch_name = ap (λ (l : List (List Rule)). get_or l 11 []) (look-table inner function)
+looked inner function flow_start = ap (λ (l : List (List Rule)). get_or l 12 []) (look-table inner function)
+
 -- 4. At a thing
 
--- the number is that of no temp, target, variable or choice
-abbrev Lone : ℕ → Type 0
-Lone n = (n ≡ 1 → ⊥) × (n ≡ 2 → ⊥) × (n ≡ 3 → ⊥) × (n ≡ 4 → ⊥) × (n ≡ 6 → ⊥) × (n ≡ 8 → ⊥)
+module _ (sections : Sections) (file kept : List ℕ) (at : At) where
+  -- what is answered for all rules is what is answered for those that are left
+  pub record ClearLeft (rs left : List Rule) : Type 0 where
+    pub says : (w : What) → ThingIs file at.thing w
+        → clear_of (known_in sections file) (here_in file kept at.scope) rs (before_at file kept at) w
+        ≡ clear_of (known_in sections file) (here_in file kept at.scope) left (before_at file kept at) w
 
--- of a look's rules only one can be broken at such a thing
-lone-looked : (inner function : Bool) (kind : Kind) → Lone (code kind) → of_sort (code kind) (look_rules inner function) ≡ of_sort (code kind) (lone_rule (code kind) ∷ [])
-unfolding of_sort can_break lone_rule
-lone-looked inner function plain e = ap (λ (l : List (List Rule)). get_or l 0 []) (look-table inner function)
-lone-looked inner function temp e = absurd (e.0 refl)
-lone-looked inner function divert e = absurd (e.1 refl)
-lone-looked inner function tunnel e = absurd (e.2 refl)
-lone-looked inner function thread e = absurd (e.3 refl)
-lone-looked inner function call e = ap (λ (l : List (List Rule)). get_or l 5 []) (look-table inner function)
-lone-looked inner function variable e = absurd (e.4 refl)
-lone-looked inner function argument e = ap (λ (l : List (List Rule)). get_or l 7 []) (look-table inner function)
-lone-looked inner function choice e = absurd (e.5 refl)
-lone-looked inner function gather e = ap (λ (l : List (List Rule)). get_or l 9 []) (look-table inner function)
-lone-looked inner function parameter e = ap (λ (l : List (List Rule)). get_or l 10 []) (look-table inner function)
-lone-looked inner function stitch_name e = ap (λ (l : List (List Rule)). get_or l 11 []) (look-table inner function)
-lone-looked inner function flow_start e = ap (λ (l : List (List Rule)). get_or l 12 []) (look-table inner function)
+  -- before the first
+  pub clear-start : (rs : List Rule) → ClearLeft rs rs
+  clear-start rs = record { says = λ w i. refl }
 
-module _ (file kept : List ℕ) (at : At) where
-  -- no rule
-  pub clear_none : ClearAt file kept at [] true
-  unfolding clear_of
-  clear_none = record { says = λ w i. refl }
-
-  module _ (r : Rule) {b : Bool} (test : (w : What) → ThingIs file at.thing w → b ≡ broken (known_in at.story.sections file) (here_in file kept at.scope) (before_at file kept at) r w) where
-    -- the first is broken
-    pub clear-stop : {rs : List Rule} → b ≡ true → ClearAt file kept at (r ∷ rs) false
+  module _ {rs left : List Rule} (u : ClearLeft rs left) where
+    -- none is left
+    pub clear-end : left ≡ [] → ClearAt sections file kept at rs true
     unfolding clear_of
-    clear-stop f = record { says = λ w i. rw (← test w i, f) }
+    clear-end e = record { says = λ w i. sym (u.says w i ∙ rw e) }
 
-    -- the first is not broken
-    pub clear-go : {rs : List Rule} {x : Bool} → b ≡ false → ClearAt file kept at rs x → ClearAt file kept at (r ∷ rs) x
-    unfolding clear_of
-    clear-go f c = record { says = λ w i. rw (← test w i, f) (c.says w i) }
+    module _ {r : Rule} {more : List Rule} (e : left ≡ r ∷ more) {b : Bool} (test : (w : What) → ThingIs file at.thing w → b ≡ broken_at sections file kept at r w) where
+      -- the next is broken
+      pub clear-stop : b ≡ true → ClearAt sections file kept at rs false
+      unfolding clear_of
+      clear-stop f = record { says = λ w i. sym (u.says w i ∙ rw (e, ← test w i, f)) }
 
-    -- the only one
-    pub clear-one : ClearAt file kept at (r ∷ []) (not b)
-    unfolding clear_of
-    clear-one = record { says = λ w i. rw (← test w i) (sym (and-true (not b))) }
+      -- it is not
+      pub clear-go : b ≡ false → ClearLeft rs more
+      unfolding clear_of
+      clear-go f = record { says = λ w i. u.says w i ∙ rw (e, ← test w i, f) }
 
   -- THE SORT of the thing decides which rules are tested
-  pub clear-by-sort : (inner function : Bool) (n : ℕ) {rs : List Rule} {x : Bool} → at.thing.sort ≡ n → of_sort n (look_rules inner function) ≡ rs → ClearAt file kept at rs x
-      → ClearAt file kept at (look_rules inner function) x
-  clear-by-sort inner function n {rs} {x} e f c = record { says = says }
+  pub clear-by-sort : (inner function : Bool) {rs : List Rule} {x : Bool} → rs ≡ get_or (look_table inner function) at.thing.sort [] → ClearAt sections file kept at rs x
+      → ClearAt sections file kept at (look_rules inner function) x
+  clear-by-sort inner function {rs} {x} e c = record { says = says }
     where
       says : (w : What) → ThingIs file at.thing w
-          → x ≡ clear_of (known_in at.story.sections file) (here_in file kept at.scope) (look_rules inner function) (before_at file kept at) w
+          → x ≡ clear_of (known_in sections file) (here_in file kept at.scope) (look_rules inner function) (before_at file kept at) w
       says w i =
-          rw (clear-sort (known_in at.story.sections file) (here_in file kept at.scope) (before_at file kept at) (look_rules inner function) w, i.sort, e, f)
-          (c.says w i)
-
-  -- at a thing of another sort the one rule
-  pub clear-lone : (inner function : Bool) {r : Rule} {x : Bool} → Lone at.thing.sort → r ≡ lone_rule at.thing.sort → ClearAt file kept at (r ∷ []) x
-      → ClearAt file kept at (look_rules inner function) x
-  clear-lone inner function {r} {x} e f c = record { says = says }
-    where
-      says : (w : What) → ThingIs file at.thing w
-          → x ≡ clear_of (known_in at.story.sections file) (here_in file kept at.scope) (look_rules inner function) (before_at file kept at) w
-      says w i =
-          let k = known_in at.story.sections file in
+          let k = known_in sections file in
           let h = here_in file kept at.scope in
           let before = before_at file kept at in
-          let lone = of_sort (code w.kind) (lone_rule (code w.kind) ∷ []) in
-          let same : r ≡ lone_rule (code w.kind) = rw i.sort f in
-          let one : clear_of k h (r ∷ []) before w ≡ clear_of k h lone before w = rw same (clear-sort k h before (lone_rule (code w.kind) ∷ []) w) in
-          let all : clear_of k h (look_rules inner function) before w ≡ clear_of k h lone before w
-          = clear-sort k h before (look_rules inner function) w ∙ ap (λ (rs : List Rule). clear_of k h rs before w) (lone-looked inner function w.kind (rw i.sort e))
-          in
-          c.says w i ∙ one ∙ sym all
+          let own : of_sort (code w.kind) (look_rules inner function) ≡ rs = looked inner function w.kind ∙ ap (λ (n : ℕ). get_or (look_table inner function) n []) i.sort ∙ sym e in
+          c.says w i ∙ sym (clear-sort k h before (look_rules inner function) w ∙ ap (λ (l : List Rule). clear_of k h l before w) own)

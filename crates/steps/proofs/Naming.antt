@@ -2,27 +2,30 @@
 use mathlib.Core.Path.{◌≡◌, refl, sym, ap, ◌∙◌}
 use mathlib.Core.Bool.{Bool, true, false}
 use mathlib.Core.List.{List, [], ◌∷◌}
-use Prim.Native.Nat.{ℕ, zero, suc, ◌+◌, ◌-◌, ◌≤◌, ◌<◌}
-use native.Mathlib.Numerals.{add-one, sub-one}
+use Prim.Native.Nat.{ℕ, suc, ◌+◌, ◌≤◌, ◌<◌}
+use native.Mathlib.Numerals.{add-one}
 use native.Mathlib.Omega.{arith}
 use lib.Dec.{T}
 use lib.ListN.{length, get_or, drop, length-drop}
 use lib.Seq.{drop-drop, drop-cons, get_or-drop}
+use Rattle.story.specs.declared.Sections.{Sections}
 use Rattle.names.specs.Counted.{name_at}
 use Rattle.records.specs.Items.{Kind, code, parameter, stitch_name, flow_start, What, Item}
 use Rattle.story.specs.Story.{Story, Flow}
 use Rattle.story.specs.Flows.{names_n, counted_in}
 use Rattle.story.proofs.Unfolding.{names-n-zero, names-n-none}
 use Rattle.items.specs.Bodies.{items_at, kept_story}
+use Rattle.rules.specs.declared.Rule.{Rule}
 use Rattle.rules.specs.Rules as rules
 use Rattle.rules.specs.Steps.{Step, s5, s6, s12, bracket, Run, run, over, name_item, param_items, purity_items}
 use Rattle.broken.specs.Scopes.{body_run, Ready}
 use Rattle.steps.specs.declared.Tally.{Tally}
-use Rattle.steps.specs.declared.brackets.Bracket.{Bracket}
+use Rattle.steps.specs.declared.brackets.Step as code
+use Rattle.steps.specs.declared.brackets.Step.TheVariants.{StitchName, Parameters, Purity}
 use Rattle.steps.specs.declared.headings.Heading.{Heading}
 use Rattle.steps.specs.declared.headings.NameVisit.{NameVisit}
 use Rattle.steps.specs.Heard.{is_full, passed, Heard, heard, hear_all, run_now, hear_runs}
-use Rattle.steps.specs.Brackets.{step_at, rules_in}
+use Rattle.steps.specs.Brackets.{step_of}
 use Rattle.steps.specs.Visits.{LikeThing, found}
 use Rattle.steps.specs.Turns.{ScopeIs, TurnReady, turn_run}
 use Rattle.steps.specs.Headings.{named, turn_of, HeadingReady, name_thing, name_visit, NameHeard, FlowIs}
@@ -33,22 +36,18 @@ use Rattle.steps.proofs.Turning.{visit-found}
 -- 1. What is ready
 
 -- a step on the heading has all that it may ask
-pub heading-turn : {file kept names targets knot body : List ℕ} {h : Heading} → HeadingReady file kept names targets knot body h → (step : ℕ) (tally : Tally)
-    → TurnReady file kept names targets knot body (turn_of h step tally)
+pub heading-turn : {file kept knot body : List ℕ} {h : Heading} → HeadingReady file kept knot body h → (step : code.Step) (tally : Tally)
+    → TurnReady file kept knot body (turn_of h step tally)
 heading-turn ready step tally = record {
-  names_ready = ready.names_ready;
-  targets_ready = ready.targets_ready;
   scope_ready = ready.scope_ready;
   knot_set = ready.knot_set;
   body_set = ready.body_set;
 }
 
 -- and the visit of a name
-pub name-ready : {file kept names targets knot body : List ℕ} (v : NameVisit) → TurnReady file kept names targets knot body v.turn → (b : Bracket)
-    → Ready file kept names targets knot body (name_visit v b).at
-name-ready v ready b = record {
-  names_ready = ready.names_ready;
-  targets_ready = ready.targets_ready;
+pub name-ready : {file kept knot body : List ℕ} (v : NameVisit) → TurnReady file kept knot body v.turn
+    → Ready file kept knot body (name_visit v).at
+name-ready v ready = record {
   scope_ready = ready.scope_ready;
   knot_set = ready.knot_set;
   body_set = ready.body_set;
@@ -57,25 +56,25 @@ name-ready v ready b = record {
 -- 2. One name
 
 -- what is found at the name, by the numbers at hand, is what the rules find there
-pub name-heard : {file kept list list' : List ℕ} {v : NameVisit} {r : Tally} (b : Bracket) → rules_in b ≡ bracket (step_at v.turn.step)
-    → ((w : What) → LikeThing file (name_thing v) w → heard r list' ≡ hear_all (heard v.turn.tally list) (found file kept (name_visit v b) w))
-    → NameHeard file kept list v r list'
-name-heard {file} {kept} {list} {list'} {v} {r} b e told = record {
+pub name-heard : {sections : Sections} {file kept list list' : List ℕ} {v : NameVisit} {r : Tally} {rs : List Rule} → rs ≡ bracket (step_of v.turn.step)
+    → ((w : What) → LikeThing file (name_thing v) w → heard r list' ≡ hear_all (heard v.turn.tally list) (found sections file kept (name_visit v) rs w))
+    → NameHeard sections file kept list v r list'
+name-heard {sections} {file} {kept} {list} {list'} {v} {r} e told = record {
   says = λ s k h q.
       let i : Item = name_item k v.place (named file v.named) in
       told i.what (record { sort = q; named = λ z. refl; branch = refl; leaves = refl })
       ∙ ap (hear_all (heard v.turn.tally list))
-      (visit-found (kept_story v.turn.story.sections file) (run_now (heard v.turn.tally list) (run s [] (step_at v.turn.step))) (record { item = i; before = [] }) h.names refl refl h.flow refl e);
+      (visit-found (kept_story sections file) (run_now (heard v.turn.tally list) (run s [] (step_of v.turn.step))) (record { item = i; before = [] }) h.names refl refl h.flow refl e);
 }
 
 -- a run over the name and other items: the others are left
-pub name-after : {file kept list list' : List ℕ} {v : NameVisit} {r : Tally} → NameHeard file kept list v r list'
-    → {s : rules.Scope} → ScopeIs file kept v.turn.story.sections v.turn.scope s → (k : Kind) → code k ≡ v.sort
-    → (step : Step) → step_at v.turn.step ≡ step → T (all_ahead (bracket step)) → (items : List Item)
-    → hear_runs (kept_story v.turn.story.sections file) (heard v.turn.tally list) (run s (name_item k v.place (named file v.named) ∷ items) step ∷ [])
-    ≡ hear_runs (kept_story v.turn.story.sections file) (heard r list') (run s items step ∷ [])
-name-after {file} {kept} {list} {list'} {v} {r} told {s} h k e step which t items =
-    let story = kept_story v.turn.story.sections file in
+pub name-after : {sections : Sections} {file kept list list' : List ℕ} {v : NameVisit} {r : Tally} → NameHeard sections file kept list v r list'
+    → {s : rules.Scope} → ScopeIs file kept sections v.turn.scope s → (k : Kind) → code k ≡ v.sort
+    → (step : Step) → step_of v.turn.step ≡ step → T (all_ahead (bracket step)) → (items : List Item)
+    → hear_runs (kept_story sections file) (heard v.turn.tally list) (run s (name_item k v.place (named file v.named) ∷ items) step ∷ [])
+    ≡ hear_runs (kept_story sections file) (heard r list') (run s items step ∷ [])
+name-after {sections} {file} {kept} {list} {list'} {v} {r} told {s} h k e step which t items =
+    let story = kept_story sections file in
     let i : Item = name_item k v.place (named file v.named) in
     run-after story (heard v.turn.tally list) s step i items t ∙ ap (λ (g : Heard). hear_runs story g (run s items step ∷ [])) (sym (rw which at (told.says s k h e)))
 
@@ -93,85 +92,84 @@ over-one s items step = refl
 -- 3. Step 12
 
 -- the stitch's name was visited: that is the whole run
-pub stitch-name : {file kept list list' : List ℕ} (h : Heading) {r r' : Tally}
-    → NameHeard file kept list (record { turn = turn_of h 12 h.tally; sort = 11; place = h.at; named = h.at }) r list' → r' ≡ passed 1 r
-    → (s : rules.Scope) → ScopeIs file kept h.story.sections h.scope s
-    → heard r' list' ≡ hear_runs (kept_story h.story.sections file) (heard h.tally list) (over s (name_item stitch_name h.at (named file h.at) ∷ []) (s12 ∷ []))
-unfolding step_at all_ahead looks_ahead
-stitch-name {file} {kept} {list} {list'} h {r} told e s q =
-    run_none (kept_story h.story.sections file) s s12 r list' e
-    ∙ sym (ap (hear_runs (kept_story h.story.sections file) (heard h.tally list)) (over-one s (name_item stitch_name h.at (named file h.at) ∷ []) s12)
+pub stitch-name : {sections : Sections} {file kept list list' : List ℕ} (h : Heading) {r r' : Tally}
+    → NameHeard sections file kept list (record { turn = turn_of h StitchName h.tally; sort = 11; place = h.at; named = h.at }) r list' → r' ≡ passed 1 r
+    → (s : rules.Scope) → ScopeIs file kept sections h.scope s
+    → heard r' list' ≡ hear_runs (kept_story sections file) (heard h.tally list) (over s (name_item stitch_name h.at (named file h.at) ∷ []) (s12 ∷ []))
+unfolding all_ahead looks_ahead
+stitch-name {sections} {file} {kept} {list} {list'} h {r} told e s q =
+    run_none (kept_story sections file) s s12 r list' e
+    ∙ sym (ap (hear_runs (kept_story sections file) (heard h.tally list)) (over-one s (name_item stitch_name h.at (named file h.at) ∷ []) s12)
     ∙ name-after told q stitch_name refl s12 refl tt [])
 
 -- 4. Step 6
 
 -- the first of the names that are left
-names-first : (file : List ℕ) (n at : ℕ) → 0 < n → at < length file
-    → names_n n at (drop at file) ≡ named file at ∷ names_n (n - 1) (at + (1 + get_or file at 0)) (drop (at + (1 + get_or file at 0)) file)
+names-first : (file : List ℕ) (n at : ℕ) → at < length file
+    → names_n (n + 1) at (drop at file) ≡ named file at ∷ names_n n (at + (1 + get_or file at 0)) (drop (at + (1 + get_or file at 0)) file)
 unfolding names_n name_at
-names-first file zero at h k = absurd (omega arith)
-names-first file (suc n) at h k =
+names-first file n at k =
     let after : at + (1 + get_or file at 0) ≡ suc at + get_or file at 0 = omega arith in
-    rw (add-one at, sub-one (suc n), drop-cons file at 0 k, after, drop-drop (get_or file at 0) (suc at) file)
+    rw (add-one n, add-one at, drop-cons file at 0 k, after, drop-drop (get_or file at 0) (suc at) file)
 
 -- step 6 over all parameters
 abbrev param_runs : List ℕ → Heading → rules.Scope → List Run
 param_runs file h s = over s (param_items (counted_in h.scope.params (drop h.scope.params file))) (s6 ∷ [])
 
 -- what is to be heard of all parameters is what is to be heard of so many from the place on
-pub record ParamsLeft (file kept : List ℕ) (h : Heading) (list₀ list : List ℕ) (tally : Tally) (left at : ℕ) : Type 0 where
-  pub rest : (s : rules.Scope) → ScopeIs file kept h.story.sections h.scope s
-      → hear_runs (kept_story h.story.sections file) (heard h.tally list₀) (param_runs file h s)
-      ≡ hear_runs (kept_story h.story.sections file) (heard tally list) (run s (param_items (names_n left at (drop at file))) s6 ∷ [])
+pub record ParamsLeft (sections : Sections) (file kept : List ℕ) (h : Heading) (list₀ list : List ℕ) (tally : Tally) (left at : ℕ) : Type 0 where
+  pub rest : (s : rules.Scope) → ScopeIs file kept sections h.scope s
+      → hear_runs (kept_story sections file) (heard h.tally list₀) (param_runs file h s)
+      ≡ hear_runs (kept_story sections file) (heard tally list) (run s (param_items (names_n left at (drop at file))) s6 ∷ [])
 
 -- no parameter was visited
-pub params-start : (file kept : List ℕ) (h : Heading) (list : List ℕ) → ParamsLeft file kept h list list h.tally (get_or file h.scope.params 0) (h.scope.params + 1)
+pub params-start : {sections : Sections} (file kept : List ℕ) (h : Heading) (list : List ℕ) {left : ℕ} → left ≡ get_or file h.scope.params 0 → ParamsLeft sections file kept h list list h.tally left (h.scope.params + 1)
 unfolding counted_in over
-params-start file kept h list =
+params-start file kept h list e =
     let params = h.scope.params in
-    let zero-on : params + 0 ≡ params = omega arith in record { rest = λ s q. rw (get_or-drop params file 0 0, zero-on, drop-drop 1 params file) }
+    let zero-on : params + 0 ≡ params = omega arith in record { rest = λ s q. rw (e, get_or-drop params file 0 0, zero-on, drop-drop 1 params file) }
 
-module _ {file kept : List ℕ} {h : Heading} {list₀ list : List ℕ} {tally : Tally} {left at : ℕ} (more : ParamsLeft file kept h list₀ list tally left at) where
+module _ {sections : Sections} {file kept : List ℕ} {h : Heading} {list₀ list : List ℕ} {tally : Tally} {left at : ℕ} (more : ParamsLeft sections file kept h list₀ list tally left at) where
   -- the next parameter was visited
-  pub params-next : 0 < left → at < length file → {list' : List ℕ} {r : Tally}
-      → NameHeard file kept list (record { turn = turn_of h 6 tally; sort = 10; place = at; named = at }) r list'
-      → ParamsLeft file kept h list₀ list' r (left - 1) (at + (1 + get_or file at 0))
-  unfolding step_at all_ahead looks_ahead
-  params-next p q told = record {
-    rest = λ s k. more.rest s k ∙ rw (names-first file left at p q) (name-after told k parameter refl s6 refl tt _);
+  pub params-next : {left' : ℕ} → left' + 1 ≡ left → at < length file → {list' : List ℕ} {r : Tally}
+      → NameHeard sections file kept list (record { turn = turn_of h Parameters tally; sort = 10; place = at; named = at }) r list'
+      → ParamsLeft sections file kept h list₀ list' r left' (at + (1 + get_or file at 0))
+  unfolding all_ahead looks_ahead
+  params-next {left'} p q told = record {
+    rest = λ s k. more.rest s k ∙ rw (← p, names-first file left' at q) (name-after told k parameter refl s6 refl tt _);
   }
 
-  module _ (s : rules.Scope) (k : ScopeIs file kept h.story.sections h.scope s) where
+  module _ (s : rules.Scope) (k : ScopeIs file kept sections h.scope s) where
     -- no parameter is left
     pub params-end : left ≤ 0 → {r : Tally} → r ≡ passed 1 tally
-        → heard r list ≡ hear_runs (kept_story h.story.sections file) (heard h.tally list₀) (param_runs file h s)
-    params-end z e = run_none (kept_story h.story.sections file) s s6 tally list e ∙ sym (more.rest s k ∙ rw (names-n-zero left at (drop at file) z))
+        → heard r list ≡ hear_runs (kept_story sections file) (heard h.tally list₀) (param_runs file h s)
+    params-end z e = run_none (kept_story sections file) s s6 tally list e ∙ sym (more.rest s k ∙ rw (names-n-zero left at (drop at file) z))
 
     -- the file ends before them
     pub params-past : length file ≤ at → {r : Tally} → r ≡ passed 1 tally
-        → heard r list ≡ hear_runs (kept_story h.story.sections file) (heard h.tally list₀) (param_runs file h s)
+        → heard r list ≡ hear_runs (kept_story sections file) (heard h.tally list₀) (param_runs file h s)
     params-past z e =
-        run_none (kept_story h.story.sections file) s s6 tally list e ∙ sym (more.rest s k ∙ rw (names-n-none left at (drop at file) (omega (arith, length-drop at file))))
+        run_none (kept_story sections file) s s6 tally list e ∙ sym (more.rest s k ∙ rw (names-n-none left at (drop at file) (omega (arith, length-drop at file))))
 
     -- no more is heard
     pub params-full : {b : Bool} → b ≡ is_full tally → b ≡ true
-        → heard tally list ≡ hear_runs (kept_story h.story.sections file) (heard h.tally list₀) (param_runs file h s)
-    params-full e f = sym (more.rest s k ∙ runs-full (kept_story h.story.sections file) (heard tally list) (sym e ∙ f) (run s (param_items (names_n left at (drop at file))) s6 ∷ []))
+        → heard tally list ≡ hear_runs (kept_story sections file) (heard h.tally list₀) (param_runs file h s)
+    params-full e f = sym (more.rest s k ∙ runs-full (kept_story sections file) (heard tally list) (sym e ∙ f) (run s (param_items (names_n left at (drop at file))) s6 ∷ []))
 
 -- 5. Step 5
 
-module _ {file kept : List ℕ} {h : Heading} (s : rules.Scope) (f : Flow) (k : ScopeIs file kept h.story.sections h.scope s) (same : FlowIs file kept h f) where
+module _ {sections : Sections} {file kept : List ℕ} {h : Heading} (s : rules.Scope) (f : Flow) (k : ScopeIs file kept sections h.scope s) (same : FlowIs file kept h f) where
   -- a function: its first byte was visited, then its own list
   pub purity-function : {list list₁ list' : List ℕ} {t r : Tally} → h.function ≡ true
-      → NameHeard file kept list (record { turn = turn_of h 5 h.tally; sort = 12; place = h.at; named = h.scope.flow }) t list₁
-      → heard r list' ≡ hear_runs (kept_story h.story.sections file) (heard t list₁) (turn_run file kept (turn_of h 5 t) s ∷ [])
-      → heard r list' ≡ hear_runs (kept_story h.story.sections file) (heard h.tally list) (over s (purity_items h.function f) (s5 ∷ []))
-  unfolding step_at all_ahead looks_ahead over
+      → NameHeard sections file kept list (record { turn = turn_of h Purity h.tally; sort = 12; place = h.at; named = h.scope.flow }) t list₁
+      → heard r list' ≡ hear_runs (kept_story sections file) (heard t list₁) (turn_run file kept (turn_of h Purity t) s ∷ [])
+      → heard r list' ≡ hear_runs (kept_story sections file) (heard h.tally list) (over s (purity_items h.function f) (s5 ∷ []))
+  unfolding all_ahead looks_ahead over
   purity-function there told rest =
       rw (there, same.place, same.name, same.body) (rest ∙ sym (name-after told k flow_start refl s5 refl tt (items_at file (body_run kept h.scope))))
 
   -- another flow
   pub purity-none : {list : List ℕ} {r : Tally} → h.function ≡ false → r ≡ passed 1 h.tally
-      → heard r list ≡ hear_runs (kept_story h.story.sections file) (heard h.tally list) (over s (purity_items h.function f) (s5 ∷ []))
+      → heard r list ≡ hear_runs (kept_story sections file) (heard h.tally list) (over s (purity_items h.function f) (s5 ∷ []))
   unfolding over
-  purity-none {list} other e = rw other (run_none (kept_story h.story.sections file) s s5 h.tally list e)
+  purity-none {list} other e = rw other (run_none (kept_story sections file) s s5 h.tally list e)

@@ -7,6 +7,7 @@ use Prim.Native.Nat.{ℕ, suc, ◌+◌, ◌≤◌}
 use native.Mathlib.Omega.{arith}
 use lib.ListN.{length}
 use borrow.Author.Tests.{leb-false}
+use Rattle.std.specs.Prelude.{IsSome}
 use Rattle.fields.specs.Bytes.{pick}
 use Rattle.names.specs.Words.{only, each}
 use Rattle.names.proofs.Lists.{Every}
@@ -154,10 +155,11 @@ runs-all s h (u ∷ us) fits =
 
 -- 5. The limit
 
--- at most so many breaches may be heard, and no more were
+-- at most so many breaches may be heard, and no more were; the last is there where one was
 pub record Within (limit : ℕ) (h : Heard) : Type 0 where
   pub limit_is : h.tally.limit ≡ limit
   pub below : h.tally.count ≤ limit
+  pub last : (h.tally.count ≡ 0 → ⊥) → IsSome h.tally.last
 
 module _ {limit : ℕ} where
   hear-within : (h : Heard) → Within limit h → (b : Breach) → Within limit (hear h b)
@@ -165,7 +167,7 @@ module _ {limit : ℕ} where
     where
       by-test : (f : Bool) → full h ≡ f → Within limit (hear h b)
       by-test true e = rw (hear-none h e b) w
-      by-test false e = rw (hear-room h e b) (record { limit_is = w.limit_is; below = omega (arith, w.limit_is, leb-false h.tally.limit h.tally.count e) })
+      by-test false e = rw (hear-room h e b) (record { limit_is = w.limit_is; below = omega (arith, w.limit_is, leb-false h.tally.limit h.tally.count e); last = λ z. refl })
 
   all-within : (h : Heard) → Within limit h → (bs : List Breach) → Within limit (hear_all h bs)
   unfolding hear_all
@@ -177,7 +179,7 @@ module _ {limit : ℕ} where
     where
       by-test : (f : Bool) → full h ≡ f → Within limit (pass n h)
       by-test true e = rw (passed-full h.tally e n) w
-      by-test false e = rw (passed-room h.tally e n) (record { limit_is = w.limit_is; below = w.below })
+      by-test false e = rw (passed-room h.tally e n) (record { limit_is = w.limit_is; below = w.below; last = w.last })
 
   pub runs-within : (s : Story) (h : Heard) → Within limit h → (us : List Run) → Within limit (hear_runs s h us)
   unfolding hear_runs

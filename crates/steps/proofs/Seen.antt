@@ -1,4 +1,5 @@
 -- A flow or a stitch that is seen at a place, and those after it. Assumes nothing.
+use Rattle.std.specs.Prelude.{Option, Some, None}
 use mathlib.Core.Path.{◌≡◌, refl, ap}
 use mathlib.Core.List.{List, [], ◌∷◌, map}
 use Prim.Native.Nat.{ℕ, ◌-◌, ◌≤◌, ◌<◌}
@@ -9,10 +10,6 @@ use Rattle.story.specs.File.{story_in}
 use Rattle.story.proofs.Readable.{readable}
 use Rattle.searches.specs.declared.views.FlowView.{FlowView}
 use Rattle.searches.specs.declared.views.StitchView.{StitchView}
-use Rattle.searches.specs.declared.views.FlowViewRead.{FlowViewRead}
-use Rattle.searches.specs.declared.views.FlowViewRead.TheVariants as flow-read
-use Rattle.searches.specs.declared.views.StitchViewRead.{StitchViewRead}
-use Rattle.searches.specs.declared.views.StitchViewRead.TheVariants as stitch-read
 use Rattle.searches.specs.Views.{flow_view_of, stitch_view_of}
 use Rattle.searches.proofs.Viewed.{FlowLaid, flow-laid, StitchLaid, stitch-laid}
 use Rattle.searches.proofs.Readable.{flow-readable, no_flow, no-stitch, stitch-readable}
@@ -22,12 +19,12 @@ use Rattle.items.proofs.RisingPlaces.{number-rises}
 use Rattle.items.proofs.Kept.{kept-flows, flow-stitches, flow-rest, flows-plain, flow-labels, stitch-rest, stitches-plain}
 use Rattle.steps.specs.Scopes.{StitchesReady, FlowReady, StitchReady, kept_flows, FlowsReady}
 
-module _ (file kept : List ℕ) (at end : ℕ) (ready : FlowsReady file kept at end) {r : FlowViewRead} (told : r ≡ flow_view_of file at end) where
+module _ (file kept : List ℕ) (at end : ℕ) (ready : FlowsReady file kept at end) {r : Option FlowView} (told : r ≡ flow_view_of file at end) where
   -- no flow is left
-  pub flows-none : r ≡ flow-read.None → kept_flows file at end ≡ []
+  pub flows-none : r ≡ None → kept_flows file at end ≡ []
   flows-none q = ap (map flow_without_plain) (no_flow file at end ready.good told q)
 
-  module _ (v : FlowView) (q : r ≡ flow-read.View v) where
+  module _ (v : FlowView) (q : r ≡ Some v) where
     -- its parts stand in order
     flow-order : FlowLaid at end v
     flow-order = flow-laid file at end v told q
@@ -73,12 +70,12 @@ module _ (file kept : List ℕ) (at end : ℕ) (ready : FlowsReady file kept at 
     pub flows-fewer : end - v.end < end - at
     flows-fewer = let o = flow-order in omega arith
 
-module _ (file : List ℕ) (at end : ℕ) (ready : StitchesReady file at end) {r : StitchViewRead} (told : r ≡ stitch_view_of file at end) where
+module _ (file : List ℕ) (at end : ℕ) (ready : StitchesReady file at end) {r : Option StitchView} (told : r ≡ stitch_view_of file at end) where
   -- no stitch is left
-  pub no-stitches : r ≡ stitch-read.None → kept_stitches file at end ≡ []
+  pub no-stitches : r ≡ None → kept_stitches file at end ≡ []
   no-stitches q = ap (map stitch_without_plain) (no-stitch file at end ready.good told q)
 
-  module _ (w : StitchView) (q : r ≡ stitch-read.View w) where
+  module _ (w : StitchView) (q : r ≡ Some w) where
     -- its parts stand in order
     stitch-order : StitchLaid at end w
     stitch-order = stitch-laid file at end w told q

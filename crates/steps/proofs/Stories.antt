@@ -1,12 +1,12 @@
 -- The steps of a stitch, and of the stitches of a knot: all is ready for them, and what they hear is what the runs find. Assumes nothing.
+use Rattle.std.specs.Prelude.{Option, Some}
 use mathlib.Core.Path.{◌≡◌, ◌∙◌}
-use mathlib.Core.Bool.{Bool, true}
+use mathlib.Core.Bool.{Bool}
 use mathlib.Core.List.{List, [], ◌∷◌}
 use Prim.Native.Nat.{ℕ, ◌≤◌}
 use native.Mathlib.Omega.{arith}
+use Rattle.story.specs.declared.Sections.{Sections}
 use Rattle.searches.specs.declared.views.StitchView.{StitchView}
-use Rattle.searches.specs.declared.views.StitchViewRead.{StitchViewRead}
-use Rattle.searches.specs.declared.views.StitchViewRead.TheVariants as stitch-read
 use Rattle.searches.specs.Views.{stitch_view_of}
 use Rattle.items.specs.Bodies.{items_at, kept_story, kept_stitch, kept_stitches, kept_flow, StitchesKept}
 use Rattle.items.specs.Runs.{number_before}
@@ -22,16 +22,17 @@ use Rattle.steps.specs.Heard.{Heard, heard, hear_runs}
 use Rattle.steps.specs.Turns.{ScopeIs}
 use Rattle.steps.specs.Scopes.{knot_scope, stitch_scope, StitchesReady}
 use Rattle.steps.specs.Headings.{HeadingReady}
-use Rattle.steps.specs.Courses.{steps_from, CourseReady}
+use Rattle.steps.specs.declared.brackets.Along.TheVariants as along
+use Rattle.steps.specs.Brackets.{steps_along}
+use Rattle.steps.specs.Courses.{CourseReady}
 use Rattle.steps.specs.Stories.{knot_after, KnotReady, StitchTurnReady}
 use Rattle.steps.proofs.Runs.{Through, through-start, through-next}
 use Rattle.steps.proofs.Order.{stitch-heard}
 use Rattle.steps.proofs.Seen.{stitch-seen-ready, stitches-after, stitch-number, stitch-last, stitches-first, stitches-rest, stitches-start}
 use Rattle.steps.proofs.Places.{stitch-is, stitch-body, stitch_ready}
-use Rattle.steps.proofs.Courses.{stitch-steps}
 use Rattle.steps.proofs.Idle.{idle_body}
 
-module _ {file kept names targets set : List ℕ} {t : StitchTurn} (ready : StitchTurnReady file kept names targets set t) {s : Scope} (e : s ≡ stitch_scope kept t.knot.scope t.stitch) where
+module _ {file kept set : List ℕ} {t : StitchTurn} (ready : StitchTurnReady file kept set t) {s : Scope} (e : s ≡ stitch_scope kept t.knot.scope t.stitch) where
   -- by the flow
   at-knot : s ≡ stitch_scope kept (knot_scope file kept t.knot.flow) t.stitch
   at-knot = e ∙ rw ready.knot_ready.scope_is
@@ -39,8 +40,8 @@ module _ {file kept names targets set : List ℕ} {t : StitchTurn} (ready : Stit
   pub stitch-scope-ready : ScopeReady file kept s
   stitch-scope-ready = rw at-knot (stitch_ready file kept t.knot.flow ready.knot_ready.flow_ready t.stitch ready.stitch_ready)
 
-  pub stitch-scope-is : ScopeIs file kept t.knot.story.sections s (rules.stitch (kept_flow file kept t.knot.flow) (kept_stitch file kept t.stitch))
-  stitch-scope-is = rw at-knot (stitch-is file kept t.knot.flow ready.knot_ready.flow_ready t.stitch ready.stitch_ready t.knot.story.sections)
+  pub stitch-scope-is : {sections : Sections} → ScopeIs file kept sections s (rules.stitch (kept_flow file kept t.knot.flow) (kept_stitch file kept t.stitch))
+  stitch-scope-is {sections} = rw at-knot (stitch-is file kept t.knot.flow ready.knot_ready.flow_ready t.stitch ready.stitch_ready sections)
 
   -- the knot's set is its own
   pub stitch-knot-set : KnotSet file kept s t.knot.rests set
@@ -48,10 +49,8 @@ module _ {file kept names targets set : List ℕ} {t : StitchTurn} (ready : Stit
 
   -- its name can be visited
   pub stitch-heading : (at : ℕ) (function : Bool) (tally : Tally)
-      → HeadingReady file kept names targets set [] (record { story = t.knot.story; scope = s; rests = t.knot.rests; at = at; function = function; tally = tally })
+      → HeadingReady file kept set [] (record { scope = s; rests = t.knot.rests; at = at; function = function; tally = tally })
   stitch-heading at function tally = record {
-    names_ready = ready.knot_ready.names_ready;
-    targets_ready = ready.knot_ready.targets_ready;
     scope_ready = stitch-scope-ready;
     knot_set = stitch-knot-set;
     body_set = idle_body file kept s t.knot.rests ready.knot_ready.own ready.knot_ready.gathers;
@@ -59,36 +58,32 @@ module _ {file kept names targets set : List ℕ} {t : StitchTurn} (ready : Stit
 
   -- the steps along its body can run
   pub stitch-course : (function : Bool) (tally : Tally)
-      → CourseReady file kept names targets set (record { turn = record { story = t.knot.story; scope = s; rests = t.knot.rests; step = 13; tally = tally }; many = 6; inner = true; function = function })
+      → CourseReady file kept set (record { scope = s; rests = t.knot.rests; along = along.Stitch; function = function; tally = tally })
   stitch-course function tally = record {
-    names_ready = ready.knot_ready.names_ready;
-    targets_ready = ready.knot_ready.targets_ready;
     scope_ready = stitch-scope-ready;
     knot_set = stitch-knot-set;
-    steps = omega arith;
-    gathers_last = λ i l. omega arith;
   }
 
   -- what they hear
-  pub stitch-told : (h : Heard) {g k : Heard}
-      → g ≡ hear_runs (kept_story t.knot.story.sections file) h (over (rules.stitch (kept_flow file kept t.knot.flow) (kept_stitch file kept t.stitch)) (stitch_items (kept_stitch file kept t.stitch)) (s12 ∷ []))
-      → k ≡ hear_runs (kept_story t.knot.story.sections file) g (over (rules.stitch (kept_flow file kept t.knot.flow) (kept_stitch file kept t.stitch)) (items_at file (body_run kept s)) (steps_from 13 6))
-      → k ≡ hear_runs (kept_story t.knot.story.sections file) h (stitch_runs (kept_flow file kept t.knot.flow) (kept_stitch file kept t.stitch))
-  stitch-told h p q =
+  pub stitch-told : (sections : Sections) (h : Heard) {g k : Heard}
+      → g ≡ hear_runs (kept_story sections file) h (over (rules.stitch (kept_flow file kept t.knot.flow) (kept_stitch file kept t.stitch)) (stitch_items (kept_stitch file kept t.stitch)) (s12 ∷ []))
+      → k ≡ hear_runs (kept_story sections file) g (over (rules.stitch (kept_flow file kept t.knot.flow) (kept_stitch file kept t.stitch)) (items_at file (body_run kept s)) (steps_along along.Stitch))
+      → k ≡ hear_runs (kept_story sections file) h (stitch_runs (kept_flow file kept t.knot.flow) (kept_stitch file kept t.stitch))
+  stitch-told sections h p q =
       let body : items_at file (body_run kept s) ≡ (kept_stitch file kept t.stitch).body
       = rw at-knot (stitch-body file kept t.knot.flow ready.knot_ready.flow_ready t.stitch ready.stitch_ready) in
-      stitch-heard (kept_story t.knot.story.sections file) (kept_flow file kept t.knot.flow) (kept_stitch file kept t.stitch) h p (rw (body, stitch-steps) at q)
+      stitch-heard (kept_story sections file) (kept_flow file kept t.knot.flow) (kept_stitch file kept t.stitch) h p (rw body at q)
 
 -- the stitches of a knot one after the other: those from the place on are left
-pub record Stitching (file kept : List ℕ) (k : Knot) (list₀ : List ℕ) (tally : Tally) (list : List ℕ) (at start : ℕ) : Type 0 where
+pub record Stitching (sections : Sections) (file kept : List ℕ) (k : Knot) (list₀ : List ℕ) (tally : Tally) (list : List ℕ) (at start : ℕ) : Type 0 where
   pub readable : StitchesReady file at k.flow.end
   pub own : StitchesKept file kept at k.flow.end
   pub before : start ≤ number_before at kept
-  pub through : Through (kept_story k.story.sections file) (stitch_runs (kept_flow file kept k.flow)) (kept_flow file kept k.flow).stitches (heard k.tally list₀) (heard tally list)
+  pub through : Through (kept_story sections file) (stitch_runs (kept_flow file kept k.flow)) (kept_flow file kept k.flow).stitches (heard k.tally list₀) (heard tally list)
       (kept_stitches file at k.flow.end)
 
-module _ {file kept names targets set : List ℕ} {k : Knot} where
-  pub stitching-start : (list : List ℕ) → KnotReady file kept names targets set k → Stitching file kept k list k.tally list k.flow.stitches k.scope.own
+module _ {file kept set : List ℕ} {k : Knot} where
+  pub stitching-start : {sections : Sections} (list : List ℕ) → KnotReady file kept set k → Stitching sections file kept k list k.tally list k.flow.stitches k.scope.own
   stitching-start list ready = record {
     readable = ready.flow_ready.stitches;
     own = ready.flow_ready.own;
@@ -96,14 +91,12 @@ module _ {file kept names targets set : List ℕ} {k : Knot} where
     through = through-start _ _ _ _;
   }
 
-  module _ (ready : KnotReady file kept names targets set k) {list₀ : List ℕ} {tally : Tally} {list : List ℕ} {at start : ℕ} (inv : Stitching file kept k list₀ tally list at start)
-      {r : StitchViewRead} (told : r ≡ stitch_view_of file at k.flow.end) (w : StitchView) (q : r ≡ stitch-read.View w) where
+  module _ {sections : Sections} (ready : KnotReady file kept set k) {list₀ : List ℕ} {tally : Tally} {list : List ℕ} {at start : ℕ} (inv : Stitching sections file kept k list₀ tally list at start)
+      {r : Option StitchView} (told : r ≡ stitch_view_of file at k.flow.end) (w : StitchView) (q : r ≡ Some w) where
     -- the stitch at the place can be gone through
-    pub stitching-ready : {j : Knot} → j ≡ knot_after k tally → StitchTurnReady file kept names targets set (record { knot = j; stitch = w; start = start })
+    pub stitching-ready : {j : Knot} → j ≡ knot_after k tally → StitchTurnReady file kept set (record { knot = j; stitch = w; start = start })
     stitching-ready e = rw e (record {
       knot_ready = record {
-        names_ready = ready.names_ready;
-        targets_ready = ready.targets_ready;
         flow_ready = ready.flow_ready;
         scope_is = ready.scope_is;
         knot_set = ready.knot_set;
@@ -123,8 +116,8 @@ module _ {file kept names targets set : List ℕ} {k : Knot} where
 
     -- on to the next
     pub stitching-next : {j : Knot} → j ≡ knot_after k tally → {tally' : Tally} {list' : List ℕ}
-        → heard tally' list' ≡ hear_runs (kept_story j.story.sections file) (heard j.tally list) (stitch_runs (kept_flow file kept j.flow) (kept_stitch file kept w))
-        → {start' : ℕ} → start' ≡ number_before w.end kept → Stitching file kept k list₀ tally' list' w.end start'
+        → heard tally' list' ≡ hear_runs (kept_story sections file) (heard j.tally list) (stitch_runs (kept_flow file kept j.flow) (kept_stitch file kept w))
+        → {start' : ℕ} → start' ≡ number_before w.end kept → Stitching sections file kept k list₀ tally' list' w.end start'
     stitching-next e p b = record {
       readable = stitches-after file at k.flow.end inv.readable told w q;
       own = stitches-rest file at k.flow.end inv.readable told w q inv.own;

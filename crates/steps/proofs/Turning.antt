@@ -1,10 +1,11 @@
 -- One step along the items of a body, item after item. Assumes nothing.
 use mathlib.Core.Path.{◌≡◌, refl, sym, ap, ◌∙◌}
-use mathlib.Core.Bool.{Bool, true}
+use mathlib.Core.Bool.{Bool, true, false}
 use mathlib.Core.List.{List, [], ◌∷◌}
 use Prim.Native.Nat.{ℕ, ◌+◌, ◌≤◌, ◌<◌}
 use native.Mathlib.Omega.{arith}
 use lib.ListN.{length, get_or, take}
+use Rattle.story.specs.declared.Sections.{Sections}
 use Rattle.names.specs.Words.{only, each}
 use Rattle.records.specs.Items.{What}
 use Rattle.records.specs.Numbers.{item_in}
@@ -20,10 +21,9 @@ use Rattle.rules.specs.Steps as steps
 use Rattle.broken.specs.declared.Thing.{Thing}
 use Rattle.broken.specs.Scopes.{body_run, BodySet, Ready}
 use Rattle.steps.specs.declared.Tally.{Tally}
-use Rattle.steps.specs.declared.brackets.Bracket.{Bracket}
 use Rattle.steps.specs.declared.nodes.Turn.{Turn}
 use Rattle.steps.specs.Heard.{is_full, passed, breach_of, Heard, heard, hear_all, pass, run_now, hear_runs}
-use Rattle.steps.specs.Brackets.{step_at, rules_in}
+use Rattle.steps.specs.Brackets.{step_of, on_gathers}
 use Rattle.steps.specs.Visits.{LikeThing, thing_of, found}
 use Rattle.steps.specs.Turns.{ScopeIs, TurnReady, turn_items, turn_run, rests_at, visit_of}
 use Rattle.steps.proofs.Hearing.{passed-full}
@@ -38,41 +38,39 @@ pub visit-found : (s : Story) (u : steps.Numbered steps.Run) (v : steps.Visit) {
 visit-found s u v a b c d e f = rw (← a, b, c, ← d, e, f)
 
 -- the first i items were visited: what the body's set has, whether it stayed, and what is heard
-pub record Turning (file kept : List ℕ) (t : Turn) (body₀ list₀ body list : List ℕ) (tally : Tally) (gathers i : ℕ) : Type 0 where
+pub record Turning (sections : Sections) (file kept : List ℕ) (t : Turn) (body₀ list₀ body list : List ℕ) (tally : Tally) (gathers i : ℕ) : Type 0 where
   pub set : BodySet file kept t.scope (rests_at t.rests gathers) i body
-  pub stays : t.step < 18 → body ≡ body₀
-  pub along : (s : rules.Scope) → ScopeIs file kept t.story.sections t.scope s
-      → Along (kept_story t.story.sections file) (run_now (heard t.tally list₀) (turn_run file kept t s)) (turn_items file kept t) (heard t.tally list₀) (heard tally list) i
+  pub stays : on_gathers (step_of t.step) ≡ false → body ≡ body₀
+  pub along : (s : rules.Scope) → ScopeIs file kept sections t.scope s
+      → Along (kept_story sections file) (run_now (heard t.tally list₀) (turn_run file kept t s)) (turn_items file kept t) (heard t.tally list₀) (heard tally list) i
 
-module _ {file kept names targets knot body : List ℕ} {t : Turn} (ready : TurnReady file kept names targets knot body t) where
+module _ {file kept knot body : List ℕ} {t : Turn} (ready : TurnReady file kept knot body t) where
   -- no item was visited
-  pub turning-start : (list : List ℕ) → Turning file kept t body list body list t.tally t.rests.gathers 0
-  turning-start list = record {
+  pub turning-start : {sections : Sections} (list : List ℕ) → Turning sections file kept t body list body list t.tally t.rests.gathers 0
+  turning-start {sections} list = record {
     set = record { temps = ready.body_set.temps; gathers = ready.body_set.gathers };
     stays = λ l. refl;
-    along = λ s h. along-start (kept_story t.story.sections file) (run_now (heard t.tally list) (turn_run file kept t s)) (turn_items file kept t) (heard t.tally list);
+    along = λ s h. along-start (kept_story sections file) (run_now (heard t.tally list) (turn_run file kept t s)) (turn_items file kept t) (heard t.tally list);
   }
 
   -- all that a rule may ask at the next item is ready
-  pub turning-ready : {list₀ body' list : List ℕ} {tally : Tally} {gathers i : ℕ} → Turning file kept t body list₀ body' list tally gathers i → {thing : Thing}
-      → Ready file kept names targets knot body' (record { story = t.story; scope = t.scope; rests = rests_at t.rests gathers; thing = thing; number = i })
+  pub turning-ready : {sections : Sections} {list₀ body' list : List ℕ} {tally : Tally} {gathers i : ℕ} → Turning sections file kept t body list₀ body' list tally gathers i → {thing : Thing}
+      → Ready file kept knot body' (record { scope = t.scope; rests = rests_at t.rests gathers; thing = thing; number = i })
   turning-ready u = record {
-    names_ready = ready.names_ready;
-    targets_ready = ready.targets_ready;
     scope_ready = ready.scope_ready;
     knot_set = record { labels = ready.knot_set.labels; temps = ready.knot_set.temps };
     body_set = u.set;
   }
 
-module _ {file kept : List ℕ} {t : Turn} {body₀ list₀ body list : List ℕ} {tally : Tally} {gathers i : ℕ} (u : Turning file kept t body₀ list₀ body list tally gathers i) where
+module _ {sections : Sections} {file kept : List ℕ} {t : Turn} {body₀ list₀ body list : List ℕ} {tally : Tally} {gathers i : ℕ} (u : Turning sections file kept t body₀ list₀ body list tally gathers i) where
   -- the next item was visited and passed
-  module _ (k : Kept file t.story.sections kept) (l : i < length (body_run kept t.scope)) (b : Bracket) (e : rules_in b ≡ steps.bracket (step_at t.step)) where
+  module _ (k : Kept file sections kept) (l : i < length (body_run kept t.scope)) {rs : List Rule} (e : rs ≡ steps.bracket (step_of t.step)) where
     pub turning-next : {body' list' : List ℕ} {tally' : Tally} {gathers' : ℕ}
         → ((w : What) → LikeThing file (thing_of (get_or (body_run kept t.scope) i 0)) w
-        → heard tally' list' ≡ hear_all (heard tally list) (found file kept (visit_of t b tally gathers i (get_or (body_run kept t.scope) i 0)) w))
+        → heard tally' list' ≡ hear_all (heard tally list) (found sections file kept (visit_of t tally gathers i (get_or (body_run kept t.scope) i 0)) rs w))
         → MembersPut sought.Gather file 2 (body_run kept t.scope) (i + 1) body body' gathers'
-        → (t.step < 18 → body' ≡ body)
-        → Turning file kept t body₀ list₀ body' list' tally' gathers' (i + 1)
+        → (on_gathers (step_of t.step) ≡ false → body' ≡ body)
+        → Turning sections file kept t body₀ list₀ body' list' tally' gathers' (i + 1)
     unfolding item_in
     turning-next heard-there put stay =
         let run = body_run kept t.scope in
@@ -83,23 +81,23 @@ module _ {file kept : List ℕ} {t : Turn} {body₀ list₀ body list : List ℕ
           along = λ s h. along-next (u.along s h) (item-there file run l)
               (heard-there (item_in file x).what (like-thing file x (run-bears k t.scope.first t.scope.last l))
               ∙ ap (hear_all (heard tally list))
-              (visit-found (kept_story t.story.sections file) (run_now (heard t.tally list₀) (turn_run file kept t s)) (record { item = item_in file x; before = take i (whats (turn_items file kept t)) })
+              (visit-found (kept_story sections file) (run_now (heard t.tally list₀) (turn_run file kept t s)) (record { item = item_in file x; before = take i (whats (turn_items file kept t)) })
               h.names (u.along s h).instance refl h.flow refl e));
         }
 
-  module _ (s : rules.Scope) (h : ScopeIs file kept t.story.sections t.scope s) where
+  module _ (s : rules.Scope) (h : ScopeIs file kept sections t.scope s) where
     -- no item is left
     pub turning-end : length (body_run kept t.scope) ≤ i → {r : Tally} → r ≡ passed 1 tally
-        → heard r list ≡ hear_runs (kept_story t.story.sections file) (heard t.tally list₀) (turn_run file kept t s ∷ [])
+        → heard r list ≡ hear_runs (kept_story sections file) (heard t.tally list₀) (turn_run file kept t s ∷ [])
     turning-end l e =
         ap (λ (x : Tally). heard x list) e
         ∙ ap (λ (g : Heard). pass 1 g) (along-end (u.along s h) (omega (arith, items-length file (body_run kept t.scope))))
-        ∙ sym (runs-one (kept_story t.story.sections file) (heard t.tally list₀) (turn_run file kept t s))
+        ∙ sym (runs-one (kept_story sections file) (heard t.tally list₀) (turn_run file kept t s))
 
     -- no more is heard
     pub turning-full : {b : Bool} → b ≡ is_full tally → b ≡ true
-        → heard tally list ≡ hear_runs (kept_story t.story.sections file) (heard t.tally list₀) (turn_run file kept t s ∷ [])
+        → heard tally list ≡ hear_runs (kept_story sections file) (heard t.tally list₀) (turn_run file kept t s ∷ [])
     turning-full e f =
         ap (λ (x : Tally). heard x list) (sym (passed-full tally (sym e ∙ f) 1))
         ∙ ap (λ (g : Heard). pass 1 g) (along-full (u.along s h) (sym e ∙ f))
-        ∙ sym (runs-one (kept_story t.story.sections file) (heard t.tally list₀) (turn_run file kept t s))
+        ∙ sym (runs-one (kept_story sections file) (heard t.tally list₀) (turn_run file kept t s))

@@ -3,9 +3,8 @@ use mathlib.Core.Path.{◌≡◌, refl, sym, ap, ◌∙◌}
 use mathlib.Core.Bool.{Bool}
 use mathlib.Core.List.{List, [], ◌∷◌}
 use mathlib.Core.Logic.{◌⊎◌, inl, inr}
-use Prim.Native.Nat.{ℕ, ◌≤◌, ◌<◌}
+use Prim.Native.Nat.{ℕ}
 use native.Mathlib.Omega.{arith}
-use lib.Seq.{take_all}
 use Rattle.names.specs.Words.{Bytes, only, each}
 use Rattle.names.specs.Counted.{name_at}
 use Rattle.records.specs.Items.{Kind, plain, temp, divert, tunnel, thread, call, variable, argument, choice, gather, parameter, stitch_name, flow_start, code, What}
@@ -15,9 +14,7 @@ use Rattle.rules.specs.Rules.{Known, Here, broken}
 use Rattle.rules.specs.Steps.{Breach, names_of}
 use Rattle.broken.specs.declared.Thing.{Thing}
 use Rattle.broken.specs.Things.{ThingIs}
-use Rattle.steps.specs.declared.brackets.Bracket.{Bracket}
 use Rattle.steps.specs.Heard.{breach_of, Heard, hear_all}
-use Rattle.steps.specs.Brackets.{rules_in}
 use Rattle.steps.specs.Visits.{LikeThing}
 use Rattle.steps.proofs.Hearing.{hear-append, all-instance}
 
@@ -81,67 +78,36 @@ module _ (k : Known) (h : Here) (before : List What) where
   like-broken {file} {t} {w} l r e =
       e (renamed (name_at file t.name) w) (record { sort = l.sort; named = refl; branch = l.branch; leaves = l.leaves }) ∙ sym (broken-like l r)
 
--- 2. One rule, two, three
+-- 2. Rules one after the other
 
 -- the breach of a rule by its test
 abbrev pub ruled : (Rule → Bool) → ℕ → ℕ → ℕ → ℕ → Rule → List Breach
 ruled test instance place flow own r = only (test r) (breach_of instance r place (names_of r flow own))
 
--- the rules of a bracket by how many they are
-module _ (b : Bracket) where
-  rules-none : b.many < 1 → rules_in b ≡ []
-  unfolding rules_in
-  rules-none l = let z : b.many ≡ 0 = omega arith in rw z
+-- what all rules find is to be heard where what those that are left find is: so far this was heard
+pub record RulesLeft (test : Rule → Bool) (place flow own : ℕ) (rs : List Rule) (start h : Heard) (left : List Rule) : Type 0 where
+  pub instance : h.tally.instance ≡ start.tally.instance
+  pub to-come : hear_all start (each (ruled test start.tally.instance place flow own) rs) ≡ hear_all h (each (ruled test start.tally.instance place flow own) left)
 
-  rules-one : 1 ≤ b.many → b.many < 2 → rules_in b ≡ b.first ∷ []
-  unfolding rules_in
-  rules-one m l = let z : b.many ≡ 1 = omega arith in rw z
+-- before the first
+pub rules-start : (test : Rule → Bool) (place flow own : ℕ) (rs : List Rule) (h : Heard) → RulesLeft test place flow own rs h h rs
+rules-start test place flow own rs h = record { instance = refl; to-come = refl }
 
-  rules-two : 2 ≤ b.many → b.many < 3 → rules_in b ≡ b.first ∷ b.second ∷ []
-  unfolding rules_in
-  rules-two m l = let z : b.many ≡ 2 = omega arith in rw z
+module _ {test : Rule → Bool} {place flow own : ℕ} {rs : List Rule} {start h : Heard} {left : List Rule} (u : RulesLeft test place flow own rs start h left) where
+  -- the next was heard by its test
+  pub rules-next : {r : Rule} {more : List Rule} {b : Bool} {g : Heard} → left ≡ r ∷ more → b ≡ test r
+      → g ≡ hear_all h (only b (breach_of h.tally.instance r place (names_of r flow own))) → RulesLeft test place flow own rs start g more
+  rules-next {r} {more} {b} e f p =
+      let at : Breach = breach_of start.tally.instance r place (names_of r flow own) in
+      let same : only b (breach_of h.tally.instance r place (names_of r flow own)) ≡ only (test r) at = rw (f, u.instance) in
+      record {
+        instance = ap (λ (x : Heard). x.tally.instance) p ∙ all-instance h (only b (breach_of h.tally.instance r place (names_of r flow own))) ∙ u.instance;
+        to-come = u.to-come
+            ∙ rw e (hear-append h (only (test r) at) (each (ruled test start.tally.instance place flow own) more)
+            ∙ ap (λ (x : Heard). hear_all x (each (ruled test start.tally.instance place flow own) more)) (sym (p ∙ ap (hear_all h) same)));
+      }
 
-  rules-three : 3 ≤ b.many → rules_in b ≡ b.first ∷ b.second ∷ b.third ∷ []
-  unfolding rules_in
-  rules-three m = take_all b.many (b.first ∷ b.second ∷ b.third ∷ []) (omega arith)
-
-module _ (test : Rule → Bool) (place flow own : ℕ) where
-  -- a rule is heard by its test
-  abbrev pub HeardBy : Heard → Rule → Bool → Heard → Type 0
-  HeardBy h r b g = g ≡ hear_all h (only b (breach_of h.tally.instance r place (names_of r flow own)))
-
-  -- all that rules find is heard
-  abbrev pub HeardRules : Heard → List Rule → Heard → Type 0
-  HeardRules h rs g = g ≡ hear_all h (each (ruled test h.tally.instance place flow own) rs)
-
-  -- a rule first, and then others
-  rule-first : (h : Heard) (r : Rule) (rs : List Rule) {b : Bool} {f g : Heard} → b ≡ test r → HeardBy h r b f → HeardRules f rs g → HeardRules h (r ∷ rs) g
-  rule-first h r rs {b} {f} {g} e p q =
-      let at : Breach = breach_of h.tally.instance r place (names_of r flow own) in
-      let same : f.tally.instance ≡ h.tally.instance = ap (λ (x : Heard). x.tally.instance) p ∙ all-instance h (only b at) in
-      q
-      ∙ ap (λ (i : ℕ). hear_all f (each (ruled test i place flow own) rs)) same
-      ∙ ap (λ (x : Heard). hear_all x (each (ruled test h.tally.instance place flow own) rs)) (p ∙ ap (λ (t : Bool). hear_all h (only t at)) e)
-      ∙ sym (hear-append h (only (test r) at) (each (ruled test h.tally.instance place flow own) rs))
-
-  no-rule : (h : Heard) → HeardRules h [] h
+  -- none is left
+  pub rules-end : left ≡ [] → h ≡ hear_all start (each (ruled test start.tally.instance place flow own) rs)
   unfolding hear_all
-  no-rule h = refl
-
-  -- the bracket, by how many rules it has
-  module _ (h : Heard) (b : Bracket) where
-    pub none-heard : b.many < 1 → HeardRules h (rules_in b) h
-    none-heard l = rw (rules-none b l) (no-rule h)
-
-    module _ {x : Bool} {f : Heard} (e : x ≡ test b.first) (p : HeardBy h b.first x f) where
-      pub one-heard : 1 ≤ b.many → b.many < 2 → HeardRules h (rules_in b) f
-      one-heard m l = rw (rules-one b m l) (rule-first h b.first [] e p (no-rule f))
-
-      module _ {y : Bool} {g : Heard} (a : y ≡ test b.second) (q : HeardBy f b.second y g) where
-        pub two-heard : 2 ≤ b.many → b.many < 3 → HeardRules h (rules_in b) g
-        two-heard m l = rw (rules-two b m l) (rule-first h b.first (b.second ∷ []) e p (rule-first f b.second [] a q (no-rule g)))
-
-        pub three-heard : 3 ≤ b.many → {z : Bool} {k : Heard} → z ≡ test b.third → HeardBy g b.third z k → HeardRules h (rules_in b) k
-        three-heard m u v =
-            rw (rules-three b m)
-            (rule-first h b.first (b.second ∷ b.third ∷ []) e p (rule-first f b.second (b.third ∷ []) a q (rule-first g b.third [] u v (no-rule _))))
+  rules-end e = sym (u.to-come ∙ rw e)

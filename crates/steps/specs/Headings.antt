@@ -1,4 +1,5 @@
 -- Inner contract. The steps that visit names: what is ready, and what is heard at a name. Assumes nothing.
+use Rattle.story.specs.declared.Sections.{Sections}
 use Rattle.std.specs.Prelude.{ℕ, ◌≡◌, false, List, []}
 use Rattle.names.specs.Counted.{name_at}
 use Rattle.records.specs.Items.{Kind, code}
@@ -7,15 +8,15 @@ use Rattle.items.specs.Bodies.{items_at, kept_story}
 use Rattle.rules.specs.Rules as rules
 use Rattle.rules.specs.Steps.{run, name_item, in_visit}
 use Rattle.broken.specs.declared.Thing.{Thing}
-use Rattle.broken.specs.Scopes.{body_run, NamesReady, TargetsReady, ScopeReady, KnotSet, BodySet}
+use Rattle.broken.specs.Scopes.{body_run, ScopeReady, KnotSet, BodySet}
 use Rattle.steps.specs.declared.Tally.{Tally}
-use Rattle.steps.specs.declared.brackets.Bracket.{Bracket}
+use Rattle.steps.specs.declared.brackets.Step.{Step}
 use Rattle.steps.specs.declared.visits.Visit.{Visit}
 use Rattle.steps.specs.declared.nodes.Turn.{Turn}
 use Rattle.steps.specs.declared.headings.Heading.{Heading}
 use Rattle.steps.specs.declared.headings.NameVisit.{NameVisit}
 use Rattle.steps.specs.Heard.{heard, hear_all, run_now}
-use Rattle.steps.specs.Brackets.{step_at}
+use Rattle.steps.specs.Brackets.{step_of}
 use Rattle.steps.specs.Turns.{ScopeIs}
 
 -- the name at the place
@@ -23,13 +24,11 @@ abbrev pub named : List ℕ → ℕ → Name
 named file at = record { at = at; bytes = name_at file at }
 
 -- a step on the heading, after what was heard so far
-abbrev pub turn_of : Heading → ℕ → Tally → Turn
-turn_of h step tally = record { story = h.story; scope = h.scope; rests = h.rests; step = step; tally = tally }
+abbrev pub turn_of : Heading → Step → Tally → Turn
+turn_of h step tally = record { scope = h.scope; rests = h.rests; step = step; tally = tally }
 
 -- all that a step on the heading may ask is ready, and no gather of the body is in its set yet
-pub record HeadingReady (file kept names targets knot body : List ℕ) (h : Heading) : Type 0 where
-  pub names_ready : NamesReady file h.story names
-  pub targets_ready : TargetsReady file h.story kept targets
+pub record HeadingReady (file kept knot body : List ℕ) (h : Heading) : Type 0 where
   pub scope_ready : ScopeReady file kept h.scope
   pub knot_set : KnotSet file kept h.scope h.rests knot
   pub body_set : BodySet file kept h.scope h.rests 0 body
@@ -39,21 +38,20 @@ abbrev pub name_thing : NameVisit → Thing
 name_thing v = record { sort = v.sort; name = v.named; branch = false; leaves = false }
 
 -- the visit of the name, before which no item stands
-abbrev pub name_visit : NameVisit → Bracket → Visit
-name_visit v rules = record {
-  at = record { story = v.turn.story; scope = v.turn.scope; rests = v.turn.rests; thing = name_thing v; number = 0 };
-  rules = rules;
+abbrev pub name_visit : NameVisit → Visit
+name_visit v = record {
+  at = record { scope = v.turn.scope; rests = v.turn.rests; thing = name_thing v; number = 0 };
   place = v.place;
   named = v.named;
   tally = v.turn.tally;
 }
 
 -- what the step finds at the name was heard, in whatever scope of the rules the code's numbers stand for
-pub record NameHeard (file kept list : List ℕ) (v : NameVisit) (r : Tally) (list' : List ℕ) : Type 0 where
-  pub says : (s : rules.Scope) (k : Kind) → ScopeIs file kept v.turn.story.sections v.turn.scope s → code k ≡ v.sort
+pub record NameHeard (sections : Sections) (file kept list : List ℕ) (v : NameVisit) (r : Tally) (list' : List ℕ) : Type 0 where
+  pub says : (s : rules.Scope) (k : Kind) → ScopeIs file kept sections v.turn.scope s → code k ≡ v.sort
       → heard r list'
       ≡ hear_all (heard v.turn.tally list)
-      (in_visit (kept_story v.turn.story.sections file) (run_now (heard v.turn.tally list) (run s [] (step_at v.turn.step))) (record { item = name_item k v.place (named file v.named); before = [] }))
+      (in_visit (kept_story sections file) (run_now (heard v.turn.tally list) (run s [] (step_of v.turn.step))) (record { item = name_item k v.place (named file v.named); before = [] }))
 
 -- the heading is that of the flow: its first byte, its name, and its own list
 pub record FlowIs (file kept : List ℕ) (h : Heading) (f : Flow) : Type 0 where

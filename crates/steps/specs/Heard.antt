@@ -1,38 +1,39 @@
 -- Inner contract. What is heard along the runs of a story: breaches one after the other, up to a limit, counted, and written to a list.
 -- Assumes nothing.
-use Rattle.std.specs.Prelude.{ℕ, ◌+◌, ◌-◌, ◌*◌, ◌/◌, ◌%◌, Bool, List, [], ◌∷◌, length, leb, ltb, eqb}
+use Rattle.std.specs.Prelude as core
+use Rattle.std.specs.Prelude.{None, Some, ℕ, ◌+◌, ◌-◌, ◌*◌, ◌/◌, ◌%◌, Bool, List, [], ◌∷◌, length, leb, ltb, eqb}
 use Rattle.std.proofs.Math.Option.{Option, none, some}
 use Rattle.std.proofs.lemmas.List.Edits.{sets}
 use Rattle.fields.specs.Bytes.{pick}
 use Rattle.story.specs.Story.{Story}
 use Rattle.rules.specs.declared.Rule.{Rule}
-use Rattle.rules.specs.declared.Rule.TheVariants.{FunctionDivertedTo}
 use Rattle.rules.specs.Rules.{number}
 use Rattle.rules.specs.Steps.{Run, Breach, breaks, breach, in_run, Numbered, Visit}
 use Rattle.steps.specs.declared.Tally.{Tally}
 use Rattle.steps.specs.declared.Names.{Names}
+use Rattle.steps.specs.declared.Last.{Last}
 
 -- 1. A TALLY
 
--- nothing heard yet, before the first run; the rule and the places mean nothing
+-- nothing heard yet, before the first run
 abbrev pub fresh : ℕ → Tally
-fresh limit = record { limit = limit; count = 0; instance = 0; rule = FunctionDivertedTo; place = 0; first = 0; second = 0 }
+fresh limit = record { limit = limit; count = 0; instance = 0; last = None }
 
 -- as many breaches were heard as may be
 abbrev pub is_full : Tally → Bool
 is_full t = leb t.limit t.count
 
+-- the places of a breach's names
+abbrev pub names_at : ℕ × ℕ → Names
+names_at names = record { first = names.0; second = names.1 }
+
+-- the breach as a tally has it
+abbrev pub last_of : Breach → Last
+last_of b = record { rule = b.rule; place = b.place; names = names_at b.names }
+
 -- one breach more, which is the last
 abbrev pub counted : Tally → Breach → Tally
-counted t b = record {
-  limit = t.limit;
-  count = t.count + 1;
-  instance = t.instance;
-  rule = b.rule;
-  place = b.place;
-  first = b.names.0;
-  second = b.names.1;
-}
+counted t b = record { limit = t.limit; count = t.count + 1; instance = t.instance; last = Some (last_of b) }
 
 -- the number of the run so many runs later, at most 4294967295
 unfoldable pub onward : ℕ → ℕ → ℕ
@@ -40,23 +41,11 @@ onward instance many = instance + pick (ltb many (4294967295 - instance)) many (
 
 -- in the run of another number
 abbrev pub in_instance : ℕ → Tally → Tally
-in_instance n t = record {
-  limit = t.limit;
-  count = t.count;
-  instance = n;
-  rule = t.rule;
-  place = t.place;
-  first = t.first;
-  second = t.second;
-}
+in_instance n t = record { limit = t.limit; count = t.count; instance = n; last = t.last }
 
 -- so many runs that find nothing, where it is not full
 unfoldable pub passed : ℕ → Tally → Tally
 passed n t = pick (is_full t) t (in_instance (onward t.instance n) t)
-
--- the places of a breach's names
-abbrev pub names_at : ℕ × ℕ → Names
-names_at names = record { first = names.0; second = names.1 }
 
 -- the breach of a rule at a place
 abbrev pub breach_of : ℕ → Rule → ℕ → ℕ × ℕ → Breach
@@ -141,9 +130,14 @@ pub record Told : Type 0 where
 abbrev pub told_of : Breach → Told
 told_of b = record { rule = b.rule; place = b.place; first = b.names.0; second = b.names.1 }
 
+-- the last breach as told
+abbrev pub last_told : core.Option Last → Option Told
+last_told None = none
+last_told (Some l) = some (record { rule = l.rule; place = l.place; first = l.names.first; second = l.names.second })
+
 -- the last breach of a tally; none where nothing was heard
 unfoldable pub told : Tally → Option Told
-told t = pick (eqb t.count 0) none (some (record { rule = t.rule; place = t.place; first = t.first; second = t.second }))
+told t = pick (eqb t.count 0) none (last_told t.last)
 
 -- a verdict as told
 unfoldable pub told_verdict : Option Breach → Option Told

@@ -1,5 +1,6 @@
 -- Inner contract. One look at a body, in front of its runs: the rules that it tests, at each sort of thing those that can be broken there,
 -- and what it answers. Assumes nothing.
+use Rattle.story.specs.declared.Sections.{Sections}
 use Rattle.std.specs.Prelude.{ℕ, ◌≡◌, Bool, true, false, List, [], ◌∷◌, ◌++◌, eqb}
 use Rattle.fields.specs.Bytes.{pick}
 use Rattle.names.specs.Words.{any}
@@ -9,7 +10,7 @@ use Rattle.rules.specs.declared.Rule.TheVariants.{FunctionDivertedTo, TargetNotF
 use Rattle.broken.specs.declared.At.{At}
 use Rattle.broken.specs.declared.Thing.{Thing}
 use Rattle.broken.specs.Things.{ThingIs}
-use Rattle.broken.specs.Scopes.{known_in, here_in, before_at, NamesReady, TargetsReady, ScopeReady, KnotSet, BodySet}
+use Rattle.broken.specs.Scopes.{known_in, here_in, before_at, ScopeReady, KnotSet, BodySet}
 use Rattle.steps.specs.Clear.{clear_of}
 
 -- 1. THE RULES OF A LOOK
@@ -89,11 +90,6 @@ abbrev pub choice_rules : Bool → Bool → List Rule
 choice_rules inner true = FunctionWithChoice ∷ led_rules inner
 choice_rules inner false = led_rules inner
 
--- the one rule at a thing of any other sort: at a call, an argument, a gather, or a parameter, which stands for the rest
-unfoldable pub lone_rule : ℕ → Rule
-lone_rule sort =
-    pick (eqb sort 5) FlowCalled (pick (eqb sort 7) ParameterAlreadyMarked (pick (eqb sort 9) GatherRepeated NameIsFunction))
-
 -- THE TABLE: the rules that a look tests at a thing of each sort, by the sort's number
 abbrev pub look_table : Bool → Bool → List (List Rule)
 look_table inner function =
@@ -115,16 +111,15 @@ look_table inner function =
 -- 3. WHAT A LOOK ANSWERS
 
 -- the answer says whether no rule of the list is broken at the thing
-pub record ClearAt (file kept : List ℕ) (at : At) (rs : List Rule) (r : Bool) : Type 0 where
+pub record ClearAt (sections : Sections) (file kept : List ℕ) (at : At) (rs : List Rule) (r : Bool) : Type 0 where
   pub says : (w : What) → ThingIs file at.thing w
-      → r ≡ clear_of (known_in at.story.sections file) (here_in file kept at.scope) rs (before_at file kept at) w
+      → r ≡ clear_of (known_in sections file) (here_in file kept at.scope) rs (before_at file kept at) w
 
 -- 4. THE ITEMS OF A BODY
 
 -- the same place at another item of the body, with the gathers in the set up to another one
 abbrev pub at_item : At → ℕ → Thing → ℕ → At
 at_item at gathers thing number = record {
-  story = at.story;
   scope = at.scope;
   rests = record { labels = at.rests.labels; temps = at.rests.temps; own = at.rests.own; gathers = gathers };
   thing = thing;
@@ -132,9 +127,7 @@ at_item at gathers thing number = record {
 }
 
 -- all that a look may ask is ready, and no gather is in the body's set
-pub record LookReady (file kept names targets knot body : List ℕ) (at : At) : Type 0 where
-  pub names_ready : NamesReady file at.story names
-  pub targets_ready : TargetsReady file at.story kept targets
+pub record LookReady (file kept knot body : List ℕ) (at : At) : Type 0 where
   pub scope_ready : ScopeReady file kept at.scope
   pub knot_set : KnotSet file kept at.scope at.rests knot
   pub body_set : BodySet file kept at.scope at.rests 0 body

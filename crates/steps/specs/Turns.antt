@@ -8,12 +8,11 @@ use Rattle.rules.specs.Rules as rules
 use Rattle.rules.specs.Steps.{Run, run, flow_named}
 use Rattle.broken.specs.declared.Scope.{Scope}
 use Rattle.broken.specs.declared.Rests.{Rests}
-use Rattle.broken.specs.Scopes.{here_in, body_run, NamesReady, TargetsReady, ScopeReady, KnotSet, BodySet}
+use Rattle.broken.specs.Scopes.{here_in, body_run, ScopeReady, KnotSet, BodySet}
 use Rattle.steps.specs.declared.Tally.{Tally}
-use Rattle.steps.specs.declared.brackets.Bracket.{Bracket}
 use Rattle.steps.specs.declared.visits.Visit.{Visit}
 use Rattle.steps.specs.declared.nodes.Turn.{Turn}
-use Rattle.steps.specs.Brackets.{step_at}
+use Rattle.steps.specs.Brackets.{step_of}
 use Rattle.steps.specs.Visits.{thing_of}
 
 -- the code's numbers stand for the scope of the rules: the same names, and the flow's name at the same place
@@ -22,9 +21,7 @@ pub record ScopeIs (file kept : List ℕ) (c : Sections) (v : Scope) (s : rules.
   pub flow : flow_named s ≡ v.flow
 
 -- all that a step along the body may ask is ready, and no gather of the body is in its set yet
-pub record TurnReady (file kept names targets knot body : List ℕ) (t : Turn) : Type 0 where
-  pub names_ready : NamesReady file t.story names
-  pub targets_ready : TargetsReady file t.story kept targets
+pub record TurnReady (file kept knot body : List ℕ) (t : Turn) : Type 0 where
   pub scope_ready : ScopeReady file kept t.scope
   pub knot_set : KnotSet file kept t.scope t.rests knot
   pub body_set : BodySet file kept t.scope t.rests 0 body
@@ -35,17 +32,16 @@ turn_items file kept t = items_at file (body_run kept t.scope)
 
 -- the step as run
 abbrev pub turn_run : List ℕ → List ℕ → Turn → rules.Scope → Run
-turn_run file kept t s = run s (turn_items file kept t) (step_at t.step)
+turn_run file kept t s = run s (turn_items file kept t) (step_of t.step)
 
 -- the rests, with the number of the item from which on no gather is in the set
 abbrev pub rests_at : Rests → ℕ → Rests
 rests_at n gathers = record { labels = n.labels; temps = n.temps; own = n.own; gathers = gathers }
 
 -- the visit of the kept item, before which so many stand
-abbrev pub visit_of : Turn → Bracket → Tally → ℕ → ℕ → ℕ → Visit
-visit_of t rules tally gathers number item = record {
-  at = record { story = t.story; scope = t.scope; rests = rests_at t.rests gathers; thing = thing_of item; number = number };
-  rules = rules;
+abbrev pub visit_of : Turn → Tally → ℕ → ℕ → ℕ → Visit
+visit_of t tally gathers number item = record {
+  at = record { scope = t.scope; rests = rests_at t.rests gathers; thing = thing_of item; number = number };
   place = place_in item;
   named = place_in item + (5 + name_start (sort_in item));
   tally = tally;

@@ -1,4 +1,5 @@
 -- Inner contract. What a step visits: a thing as the code has it, and the breaches found there. Assumes nothing.
+use Rattle.story.specs.declared.Sections.{Sections}
 use Rattle.std.specs.Prelude.{ℕ, ◌+◌, ◌≡◌, List}
 use Rattle.names.specs.Words.{only, each}
 use Rattle.names.specs.Counted.{name_at}
@@ -11,7 +12,6 @@ use Rattle.broken.specs.declared.Thing.{Thing}
 use Rattle.broken.specs.Scopes.{known_in, here_in, before_at}
 use Rattle.steps.specs.declared.visits.Visit.{Visit}
 use Rattle.steps.specs.Heard.{breach_of}
-use Rattle.steps.specs.Brackets.{rules_in}
 
 -- the thing is of the sort, stands and leaves so, and, where it is no choice, bears the name that the file has at its place: a choice may have none
 pub record LikeThing (file : List ℕ) (t : Thing) (w : What) : Type 0 where
@@ -28,11 +28,11 @@ BearsName file i = (code i.what.kind ≡ 8 → ⊥) → i.what.name ≡ name_at 
 abbrev pub thing_of : ℕ → Thing
 thing_of x = record { sort = code (sort_in x); name = place_in x + (5 + name_start (sort_in x)); branch = branch_in x; leaves = leaves_in x }
 
--- the breaches at what is visited, by the rules of the bracket
-abbrev pub found : List ℕ → List ℕ → Visit → What → List Breach
-found file kept v w =
+-- the breaches at what is visited, by the rules
+abbrev pub found : Sections → List ℕ → List ℕ → Visit → List Rule → What → List Breach
+found sections file kept v rs w =
     each
     (λ (r : Rule). only
-    (broken (known_in v.at.story.sections file) (here_in file kept v.at.scope) (before_at file kept v.at) r w)
+    (broken (known_in sections file) (here_in file kept v.at.scope) (before_at file kept v.at) r w)
     (breach_of v.tally.instance r v.place (names_of r v.at.scope.flow v.named)))
-    (rules_in v.rules)
+    rs

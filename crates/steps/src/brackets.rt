@@ -1,80 +1,136 @@
-// The rules of each step, by the step's number: the table of steps.
-ghost use Rattle.std.specs.Prelude.{◌≡◌, [], ◌∷◌};
+// The twenty steps with their rules, and the courses: the steps that run along one body.
+ghost use Rattle.std.specs.Prelude.{◌≡◌, map, length};
 ghost use Rattle.rules.specs.Steps.{bracket};
-ghost use Rattle.steps.specs.Brackets.{step_at, rules_in};
+ghost use Rattle.steps.specs.Brackets.{step_of, on_gathers, steps_along, in_stitch};
 
 use rules::Rule;
 
-// The rules of a step: how many, and at most three; those that are not used repeat the first.
+// The twenty steps, in the order of their numbers: four along the root, seven of each flow, seven of each of its stitches, the gathers of the flow, and
+// those of the root.
 #[derive(Clone, Copy)]
-pub struct Bracket {
-    pub many: u8,
-    pub first: Rule,
-    pub second: Rule,
-    pub third: Rule,
+pub enum Step {
+    RootTemps,
+    RootTargets,
+    RootCalls,
+    RootChoices,
+    Purity,
+    Parameters,
+    Temps,
+    Targets,
+    Calls,
+    Choices,
+    VariableDiverts,
+    StitchName,
+    StitchTemps,
+    StitchTargets,
+    StitchCalls,
+    StitchVariableDiverts,
+    StitchVariables,
+    StitchGathers,
+    Gathers,
+    RootGathers,
 }
 
-// One rule.
-fn one(rule: Rule) -> Bracket
-    ensures { rules_in result ≡ rule ∷ [] }
-{
-    Bracket {
-        many: 1,
-        first: rule,
-        second: rule,
-        third: rule,
-    }
-}
-
-// Two rules.
-fn two(first: Rule, second: Rule) -> Bracket
-    ensures { rules_in result ≡ first ∷ second ∷ [] }
-{
-    Bracket {
-        many: 2,
-        first,
-        second,
-        third: first,
-    }
-}
-
-// Three rules.
-fn three(first: Rule, second: Rule, third: Rule) -> Bracket
-    ensures { rules_in result ≡ first ∷ second ∷ third ∷ [] }
-{
-    Bracket {
-        many: 3,
-        first,
-        second,
-        third,
-    }
-}
-
-// THE TABLE: the rules of the step of this number, 1 to 20; past them those of the last step.
-pub fn bracket_of(step: u8) -> Bracket
-    ensures { rules_in result ≡ bracket (step_at step) }
-{
-    match step {
-        1 => two(Rule::NameIsFunction, Rule::TempIsLabel),
-        2 | 8 | 14 => two(Rule::FunctionDivertedTo, Rule::TargetNotFound),
-        3 | 9 | 15 => one(Rule::FlowCalled),
-        4 | 10 => one(Rule::ChoiceUndiverted),
-        5 => {
-            three(
+impl Step {
+    // THE TABLE: the rules of the step.
+    pub fn rules(self) -> &'static [Rule]
+        ensures { result.now ≡ bracket (step_of self) }
+    {
+        match self {
+            Step::RootTemps => &[Rule::NameIsFunction, Rule::TempIsLabel],
+            Step::RootTargets | Step::Targets | Step::StitchTargets => {
+                &[Rule::FunctionDivertedTo, Rule::TargetNotFound]
+            }
+            Step::RootCalls | Step::Calls | Step::StitchCalls => &[Rule::FlowCalled],
+            Step::RootChoices | Step::Choices => &[Rule::ChoiceUndiverted],
+            Step::Purity => &[
                 Rule::FunctionWithStitches,
                 Rule::FunctionWithChoice,
                 Rule::FunctionWithDivert,
-            )
+            ],
+            Step::Parameters => &[Rule::NameIsFunction, Rule::NameIsGlobal],
+            Step::Temps | Step::StitchTemps => &[
+                Rule::NameIsFunction,
+                Rule::TempIsParameter,
+                Rule::TempIsLabel,
+            ],
+            Step::VariableDiverts | Step::StitchVariableDiverts => {
+                &[Rule::ParameterUnmarked, Rule::ParameterAlreadyMarked]
+            }
+            Step::StitchName => &[Rule::NameIsGlobal],
+            Step::StitchVariables => &[Rule::VariableForbidden],
+            Step::StitchGathers | Step::Gathers | Step::RootGathers => &[Rule::GatherRepeated],
         }
-        6 => two(Rule::NameIsFunction, Rule::NameIsGlobal),
-        7 | 13 => three(
-            Rule::NameIsFunction,
-            Rule::TempIsParameter,
-            Rule::TempIsLabel,
-        ),
-        11 | 16 => two(Rule::ParameterUnmarked, Rule::ParameterAlreadyMarked),
-        12 => one(Rule::NameIsGlobal),
-        17 => one(Rule::VariableForbidden),
-        _ => one(Rule::GatherRepeated),
+    }
+
+    // The step is one on gathers.
+    pub fn is_on_gathers(self) -> bool
+        ensures { result ≡ on_gathers (step_of self) }
+    {
+        match self {
+            Step::StitchGathers | Step::Gathers | Step::RootGathers => true,
+            _ => false,
+        }
+    }
+}
+
+// The steps along one body that run one after the other: those of the root, of a flow's own list and of a stitch; the gathers of the root and of a
+// flow run after what lies between.
+#[derive(Clone, Copy)]
+pub enum Along {
+    Root,
+    RootGathers,
+    Flow,
+    FlowGathers,
+    Stitch,
+}
+
+impl Along {
+    // The steps, in order.
+    pub fn steps(self) -> &'static [Step]
+        ensures { map step_of result.now ≡ steps_along self }
+    {
+        match self {
+            Along::Root => &[
+                Step::RootTemps,
+                Step::RootTargets,
+                Step::RootCalls,
+                Step::RootChoices,
+            ],
+            Along::RootGathers => &[Step::RootGathers],
+            Along::Flow => &[
+                Step::Temps,
+                Step::Targets,
+                Step::Calls,
+                Step::Choices,
+                Step::VariableDiverts,
+            ],
+            Along::FlowGathers => &[Step::Gathers],
+            Along::Stitch => &[
+                Step::StitchTemps,
+                Step::StitchTargets,
+                Step::StitchCalls,
+                Step::StitchVariableDiverts,
+                Step::StitchVariables,
+                Step::StitchGathers,
+            ],
+        }
+    }
+
+    // How many they are.
+    pub fn many(self) -> usize
+        ensures { result ≡ length (steps_along self) }
+    {
+        self.steps().len()
+    }
+
+    // The body is a stitch's.
+    pub fn is_in_stitch(self) -> bool
+        ensures { result ≡ in_stitch self }
+    {
+        match self {
+            Along::Stitch => true,
+            _ => false,
+        }
     }
 }

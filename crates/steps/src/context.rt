@@ -6,22 +6,22 @@ ghost use Rattle.rules.specs.Steps.{stitch_runs, flow_runs, runs};
 ghost use Rattle.steps.specs.Heard.{heard, hear_runs};
 ghost use Rattle.steps.specs.Stories.{knot_after, course_of, root_course, first_heard, KnotReady, StitchTurnReady, FlowTurnReady, StoryTurnReady};
 
-use crate::bodies::{Course, is_clear, validate_body, validate_steps};
+use crate::bodies::{Course, is_clear, room, validate_body, validate_steps};
+use crate::brackets::Along;
 use crate::fillings::put_knot;
 use crate::headings::{
     Heading, validate_flow_parameter_names, validate_function_purity, validate_stitch_name,
 };
-use crate::nodes::Turn;
 use crate::scopes::{index_from, knot_scope, root_scope, stitch_scope};
 use crate::{Tally, is_full, pass_runs};
-use broken::{Rests, Scope, StoryView};
-use searches::views::{FlowView, FlowViewRead, StitchView, StitchViewRead, flow_view, stitch_view};
+use broken::asked::Story;
+use broken::{Rests, Scope};
+use searches::views::{FlowView, StitchView, flow_view, stitch_view};
 
-// A knot whose steps run: the story, the flow, where its steps run, the numbers of the items from which on the names are in no set, and what
+// A knot whose steps run: the flow, where its steps run, the numbers of the items from which on the names are in no set, and what
 // was heard before.
 #[derive(Clone, Copy)]
 pub struct Knot {
-    pub story: StoryView,
     pub flow: FlowView,
     pub scope: Scope,
     pub rests: Rests,
@@ -38,84 +38,60 @@ pub struct StitchTurn {
 
 // Steps 12 to 18, of a stitch.
 fn validate_stitch(
-    file: &[u8],
-    kept: &[u32],
-    names: &[u32],
-    targets: &[u64],
+    story: &Story<'_>,
     knot: &[u32],
     body: &mut [u32],
     list: &mut [u32],
     t: StitchTurn,
 ) -> Tally
-    requires { StitchTurnReady file.now kept.now names.now targets.now knot.now t }
-    ensures { heard result list.new ≡ hear_runs (kept_story t.knot.story.sections file.now) (heard t.knot.tally list.old) (stitch_runs (kept_flow file.now kept.now t.knot.flow) (kept_stitch file.now kept.now t.stitch)) }
+    requires { StitchTurnReady story.now.file.now story.now.kept.now knot.now t }
+    ensures { heard result list.new ≡ hear_runs (kept_story story.now.view.sections story.now.file.now) (heard t.knot.tally list.old) (stitch_runs (kept_flow story.now.file.now story.now.kept.now t.knot.flow) (kept_stitch story.now.file.now story.now.kept.now t.stitch)) }
 {
     let k = t.knot;
-    let story = k.story;
     let rests = k.rests;
     let tally = k.tally;
-    let scope = stitch_scope(kept, k.scope, t.stitch, t.start);
+    let scope = stitch_scope(story.kept, k.scope, t.stitch, t.start);
     let heading = Heading {
-        story,
         scope,
         rests,
         at: t.stitch.name,
         function: false,
         tally,
     };
-    let first = validate_stitch_name(file, kept, names, targets, knot, &knot[..0], list, heading);
-    let turn = Turn {
-        story,
+    let first = validate_stitch_name(story, knot, &knot[..0], list, heading);
+    let course = Course {
         scope,
         rests,
-        step: 13,
+        along: Along::Stitch,
+        function: false,
         tally: first,
     };
-    let course = Course {
-        turn,
-        many: 6,
-        inner: true,
-        function: false,
-    };
-    validate_body(file, kept, names, targets, knot, body, list, course)
+    validate_body(story, knot, body, list, course)
 }
 
 // The knot, with what was heard so far.
 fn knot_after(k: Knot, tally: Tally) -> Knot
     ensures { result ≡ knot_after k tally }
 {
-    let story = k.story;
-    let flow = k.flow;
-    let scope = k.scope;
-    let rests = k.rests;
-    Knot {
-        story,
-        flow,
-        scope,
-        rests,
-        tally,
-    }
+    Knot { tally, ..k }
 }
 
 // Steps 12 to 18, of the stitches of a flow one after the other, until it is full.
 fn validate_stitches(
-    file: &[u8],
-    kept: &[u32],
-    names: &[u32],
-    targets: &[u64],
+    story: &Story<'_>,
     knot: &[u32],
     body: &mut [u32],
     list: &mut [u32],
     k: Knot,
 ) -> Tally
-    requires { KnotReady file.now kept.now names.now targets.now knot.now k }
-    ensures { heard result list.new ≡ hear_runs (kept_story k.story.sections file.now) (heard k.tally list.old) (each (stitch_runs (kept_flow file.now kept.now k.flow)) (kept_flow file.now kept.now k.flow).stitches) }
+    requires { KnotReady story.now.file.now story.now.kept.now knot.now k }
+    ensures { heard result list.new ≡ hear_runs (kept_story story.now.view.sections story.now.file.now) (heard k.tally list.old) (each (stitch_runs (kept_flow story.now.file.now story.now.kept.now k.flow)) (kept_flow story.now.file.now story.now.kept.now k.flow).stitches) }
 {
     let mut tally = k.tally;
     let mut at = k.flow.stitches;
     let mut start = k.scope.own;
     loop {
-        let StitchViewRead::View(w) = stitch_view(file, at, k.flow.end) else {
+        let Some(w) = stitch_view(story.file, at, k.flow.end) else {
             return tally;
         };
         if is_full(tally) {
@@ -126,114 +102,85 @@ fn validate_stitches(
             stitch: w,
             start,
         };
-        tally = validate_stitch(file, kept, names, targets, knot, body, list, t);
+        tally = validate_stitch(story, knot, body, list, t);
         at = w.end;
-        start = index_from(kept, start, at);
+        start = index_from(story.kept, start, at);
     }
 }
 
 // Steps 5 and 6, of a flow: nothing is asked of a body's set.
 fn validate_first_steps(
-    file: &[u8],
-    kept: &[u32],
-    names: &[u32],
-    targets: &[u64],
+    story: &Story<'_>,
     knot: &[u32],
     body: &mut [u32],
     list: &mut [u32],
     k: Knot,
 ) -> Tally
-    requires { KnotReady file.now kept.now names.now targets.now knot.now k }
-    ensures { heard result list.new ≡ first_heard file.now kept.now k (heard k.tally list.old) }
+    requires { KnotReady story.now.file.now story.now.kept.now knot.now k }
+    ensures { heard result list.new ≡ first_heard story.now.view.sections story.now.file.now story.now.kept.now k (heard k.tally list.old) }
 {
-    let story = k.story;
     let scope = k.scope;
     let rests = k.rests;
     let tally = k.tally;
     let flow = k.flow;
     let heading = Heading {
-        story,
         scope,
         rests,
         at: flow.at,
         function: flow.function,
         tally,
     };
-    let purity = validate_function_purity(
-        file,
-        kept,
-        names,
-        targets,
-        knot,
-        &mut body[..0],
-        list,
-        heading,
-    );
+    let purity = validate_function_purity(story, knot, &mut body[..0], list, heading);
     let params = Heading {
-        story,
-        scope,
-        rests,
-        at: flow.at,
-        function: flow.function,
         tally: purity,
+        ..heading
     };
-    validate_flow_parameter_names(file, kept, names, targets, knot, &knot[..0], list, params)
+    validate_flow_parameter_names(story, knot, &knot[..0], list, params)
 }
 
-// So many steps along the own list of a flow, from the step on, after what was heard.
-fn course_of(k: Knot, step: u8, many: u8, tally: Tally) -> Course
-    ensures { result ≡ course_of k step many tally }
+// Steps along the own list of a flow, after what was heard.
+fn course_of(k: Knot, along: Along, tally: Tally) -> Course
+    ensures { result ≡ course_of k along tally }
 {
-    let story = k.story;
     let scope = k.scope;
     let rests = k.rests;
-    let turn = Turn {
-        story,
+    Course {
         scope,
         rests,
-        step,
-        tally,
-    };
-    Course {
-        turn,
-        many,
-        inner: false,
+        along,
         function: k.flow.function,
+        tally,
     }
 }
 
 // Steps 5 to 19, of a flow whose set is filled: where one look finds its own list clear, its steps are passed.
 fn validate_knot(
-    file: &[u8],
-    kept: &[u32],
-    names: &[u32],
-    targets: &[u64],
+    story: &Story<'_>,
     knot: &[u32],
     body: &mut [u32],
     list: &mut [u32],
     k: Knot,
 ) -> Tally
-    requires { KnotReady file.now kept.now names.now targets.now knot.now k }
-    ensures { heard result list.new ≡ hear_runs (kept_story k.story.sections file.now) (heard k.tally list.old) (flow_runs (kept_flow file.now kept.now k.flow)) }
+    requires { KnotReady story.now.file.now story.now.kept.now knot.now k }
+    ensures { heard result list.new ≡ hear_runs (kept_story story.now.view.sections story.now.file.now) (heard k.tally list.old) (flow_runs (kept_flow story.now.file.now story.now.kept.now k.flow)) }
 {
-    let first = validate_first_steps(file, kept, names, targets, knot, body, list, k);
-    let own = course_of(k, 7, 5, first);
-    if is_clear(file, kept, names, targets, knot, body, own) {
-        let passed = knot_after(k, pass_runs(first, 5));
-        let tally = validate_stitches(file, kept, names, targets, knot, body, list, passed);
-        return pass_runs(tally, 1);
+    let first = validate_first_steps(story, knot, body, list, k);
+    let own = course_of(k, Along::Flow, first);
+    if is_clear(story, knot, body, own) {
+        let passed = knot_after(k, pass_runs(first, Along::Flow.many()));
+        let tally = validate_stitches(story, knot, body, list, passed);
+        return pass_runs(tally, Along::FlowGathers.many());
     }
-    let tally = validate_steps(file, kept, names, targets, knot, body, list, own);
+    let tally = validate_steps(story, knot, body, list, own);
     let after = knot_after(k, tally);
-    let tally = validate_stitches(file, kept, names, targets, knot, body, list, after);
-    let gathers = course_of(k, 19, 1, tally);
-    validate_steps(file, kept, names, targets, knot, body, list, gathers)
+    let tally = validate_stitches(story, knot, body, list, after);
+    let gathers = course_of(k, Along::FlowGathers, tally);
+    validate_steps(story, knot, body, list, gathers)
 }
 
 // A flow, the number of a kept item before its own, and what was heard before.
 #[derive(Clone, Copy)]
 pub struct FlowTurn {
-    pub story: StoryView,
     pub flow: FlowView,
     pub start: usize,
     pub tally: Tally,
@@ -241,158 +188,105 @@ pub struct FlowTurn {
 
 // Steps 5 to 19, of a flow: its set is filled first.
 fn validate_flow(
-    file: &[u8],
-    kept: &[u32],
-    names: &[u32],
-    targets: &[u64],
+    story: &Story<'_>,
     knot: &mut [u32],
     body: &mut [u32],
     list: &mut [u32],
     t: FlowTurn,
 ) -> Tally
-    requires { FlowTurnReady file.now kept.now names.now targets.now t }
-    ensures { heard result list.new ≡ hear_runs (kept_story t.story.sections file.now) (heard t.tally list.old) (flow_runs (kept_flow file.now kept.now t.flow)) }
+    requires { FlowTurnReady story.now.file.now story.now.kept.now t }
+    ensures { heard result list.new ≡ hear_runs (kept_story story.now.view.sections story.now.file.now) (heard t.tally list.old) (flow_runs (kept_flow story.now.file.now story.now.kept.now t.flow)) }
 {
-    let story = t.story;
     let flow = t.flow;
     let tally = t.tally;
-    let scope = knot_scope(file, kept, flow, t.start);
-    let rests = put_knot(file, kept, scope, knot);
+    let scope = knot_scope(story.file, story.kept, flow, t.start);
+    let rests = put_knot(story.file, story.kept, scope, knot);
     let k = Knot {
-        story,
         flow,
         scope,
         rests,
         tally,
     };
-    validate_knot(file, kept, names, targets, knot, body, list, k)
+    validate_knot(story, knot, body, list, k)
 }
 
-// Of so many slots, those that the names of a flow need: its items have six bytes at least.
-fn knot_room(slots: usize, v: FlowView) -> usize
-    requires { v.from ≤ v.end }
-    ensures { result ≤ slots }
-{
-    let items = (v.end - v.from) / 6;
-    if items < slots / 2 {
-        return 2 * items + 1;
-    }
-    slots
-}
-
-// The story and what was heard before.
+// The number of a kept item before those of the flows, and what was heard before.
 #[derive(Clone, Copy)]
 pub struct StoryTurn {
-    pub story: StoryView,
     pub start: usize,
     pub tally: Tally,
 }
 
 // Steps 5 to 19, of the flows one after the other, until it is full.
 fn validate_flows(
-    file: &[u8],
-    kept: &[u32],
-    names: &[u32],
-    targets: &[u64],
+    story: &Story<'_>,
     knot: &mut [u32],
     body: &mut [u32],
     list: &mut [u32],
     t: StoryTurn,
 ) -> Tally
-    requires { StoryTurnReady file.now kept.now names.now targets.now t }
-    ensures { heard result list.new ≡ hear_runs (kept_story t.story.sections file.now) (heard t.tally list.old) (each flow_runs (kept_story t.story.sections file.now).flows) }
+    requires { StoryTurnReady story.now.view.sections story.now.file.now story.now.kept.now t }
+    ensures { heard result list.new ≡ hear_runs (kept_story story.now.view.sections story.now.file.now) (heard t.tally list.old) (each flow_runs (kept_story story.now.view.sections story.now.file.now).flows) }
 {
     let mut tally = t.tally;
-    let mut at = t.story.sections.flows;
+    let mut at = story.view.sections.flows;
     let mut start = t.start;
     loop {
-        let FlowViewRead::View(flow) = flow_view(file, at, t.story.sections.end) else {
+        let Some(flow) = flow_view(story.file, at, story.view.sections.end) else {
             return tally;
         };
         if is_full(tally) {
             return tally;
         }
-        let room = knot_room(knot.len(), flow);
-        let story = t.story;
-        let turn = FlowTurn {
-            story,
-            flow,
-            start,
-            tally,
-        };
-        tally = validate_flow(
-            file,
-            kept,
-            names,
-            targets,
-            &mut knot[..room],
-            body,
-            list,
-            turn,
-        );
+        // The flow's items have six bytes at least.
+        let slots = room(knot.len(), (flow.end - flow.from) / 6);
+        let turn = FlowTurn { flow, start, tally };
+        tally = validate_flow(story, &mut knot[..slots], body, list, turn);
         at = flow.end;
-        start = index_from(kept, start, at);
+        start = index_from(story.kept, start, at);
     }
 }
 
-// So many steps along the root, from the step on, after what was heard.
-fn root_course(
-    story: StoryView,
-    scope: Scope,
-    rests: Rests,
-    step: u8,
-    many: u8,
-    tally: Tally,
-) -> Course
-    ensures { result ≡ root_course story scope rests step many tally }
+// Steps along the root, after what was heard.
+fn root_course(scope: Scope, rests: Rests, along: Along, tally: Tally) -> Course
+    ensures { result ≡ root_course scope rests along tally }
 {
-    let turn = Turn {
-        story,
+    Course {
         scope,
         rests,
-        step,
-        tally,
-    };
-    Course {
-        turn,
-        many,
-        inner: false,
+        along,
         function: false,
+        tally,
     }
 }
 
 // THE TWENTY STEPS: 1 to 4 at the root, 5 to 19 of each flow, 20 at the root, for which no name of the knot is asked.
 pub fn validate_story(
-    file: &[u8],
-    kept: &[u32],
-    names: &[u32],
-    targets: &[u64],
+    story: &Story<'_>,
     knot: &mut [u32],
     body: &mut [u32],
     list: &mut [u32],
     t: StoryTurn,
 ) -> Tally
-    requires { StoryTurnReady file.now kept.now names.now targets.now t }
-    ensures { heard result list.new ≡ hear_runs (kept_story t.story.sections file.now) (heard t.tally list.old) (runs (kept_story t.story.sections file.now)) }
+    requires { StoryTurnReady story.now.view.sections story.now.file.now story.now.kept.now t }
+    ensures { heard result list.new ≡ hear_runs (kept_story story.now.view.sections story.now.file.now) (heard t.tally list.old) (runs (kept_story story.now.view.sections story.now.file.now)) }
 {
-    let story = t.story;
     let tally = t.tally;
-    let scope = root_scope(file, story.sections, kept);
-    let rests = put_knot(file, kept, scope, knot);
-    let root = root_course(story, scope, rests, 1, 4, tally);
-    let first = validate_body(file, kept, names, targets, knot, body, list, root);
+    let scope = root_scope(story.file, story.view.sections, story.kept);
+    let rests = put_knot(story.file, story.kept, scope, knot);
+    let root = root_course(scope, rests, Along::Root, tally);
+    let first = validate_body(story, knot, body, list, root);
     let turn = StoryTurn {
-        story,
         start: scope.last,
         tally: first,
     };
-    let flows = validate_flows(file, kept, names, targets, knot, body, list, turn);
+    let flows = validate_flows(story, knot, body, list, turn);
     let none = Rests {
         labels: 0,
         temps: 0,
         own: 0,
         gathers: 0,
     };
-    let gathers = root_course(story, scope, none, 20, 1, flows);
-    validate_body(file, kept, names, targets, &names[..0], body, list, gathers)
+    let gathers = root_course(scope, none, Along::RootGathers, flows);
+    validate_body(story, &story.names[..0], body, list, gathers)
 }

@@ -3,11 +3,10 @@ ghost use Rattle.items.specs.Standing.{NamesStand};
 ghost use Rattle.broken.specs.Scopes.{ScopeReady};
 ghost use Rattle.steps.specs.Fillings.{KnotPut, BodyPut};
 
-use broken::structure::{LABELS, TEMPS};
 use broken::{Rests, Scope};
 use items::named::Sought;
-use sets::clear;
 use sets::members::put_items;
+use sets::{Class, clear};
 
 // Clears the knot's set, and puts the labels of the knot and its stitches and the temps of its own list.
 pub fn put_knot(file: &[u8], kept: &[u32], s: Scope, knot: &mut [u32]) -> Rests
@@ -19,8 +18,8 @@ pub fn put_knot(file: &[u8], kept: &[u32], s: Scope, knot: &mut [u32]) -> Rests
     let first = s.knot;
     let own = s.own;
     let end = s.end;
-    let labels = put_items(Sought::Label, file, &kept[first..end], LABELS, knot);
-    let temps = put_items(Sought::Temp, file, &kept[first..own], TEMPS, knot);
+    let labels = put_items(Sought::Label, file, &kept[first..end], Class::Label, knot);
+    let temps = put_items(Sought::Temp, file, &kept[first..own], Class::Temp, knot);
     Rests {
         labels,
         temps,
@@ -46,18 +45,16 @@ pub fn put_body(
     if inner {
         let first = s.first;
         let last = s.last;
-        let own = put_items(Sought::Temp, file, &kept[first..last], TEMPS, body);
+        let own = put_items(Sought::Temp, file, &kept[first..last], Class::Temp, body);
         return Rests {
-            labels: n.labels,
-            temps: n.temps,
             own,
             gathers: 0,
+            ..n
         };
     }
     Rests {
-        labels: n.labels,
-        temps: n.temps,
         own: 0,
         gathers: 0,
+        ..n
     }
 }

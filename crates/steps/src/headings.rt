@@ -10,18 +10,18 @@ ghost use Rattle.steps.specs.Heard.{heard, hear_runs};
 ghost use Rattle.steps.specs.Turns.{ScopeIs, TurnReady};
 ghost use Rattle.steps.specs.Headings.{named, turn_of, name_visit, HeadingReady, NameHeard, FlowIs};
 
-use crate::brackets::{Bracket, bracket_of};
+use crate::brackets::Step;
 use crate::nodes::{Turn, validate_nodes};
 use crate::visits::{Visit, visit_thing};
 use crate::{Tally, is_full, next_run};
+use broken::asked::Story;
 use broken::things::{FLOW_START, PARAMETER, STITCH_NAME};
-use broken::{At, Rests, Scope, StoryView, Thing};
+use broken::{At, Rests, Scope, Thing};
 
-// A heading: the story, where the steps on it run, the numbers of the items from which on the names are in no set, the place of the stitch's name or
+// A heading: where the steps on it run, the numbers of the items from which on the names are in no set, the place of the stitch's name or
 // of the flow's first byte, whether the flow is a function, and what was heard before.
 #[derive(Clone, Copy)]
 pub struct Heading {
-    pub story: StoryView,
     pub scope: Scope,
     pub rests: Rests,
     pub at: usize,
@@ -39,14 +39,12 @@ pub struct NameVisit {
 }
 
 // A step on the heading, after what was heard so far.
-fn turn_of(h: Heading, step: u8, tally: Tally) -> Turn
+fn turn_of(h: Heading, step: Step, tally: Tally) -> Turn
     ensures { result ≡ turn_of h step tally }
 {
-    let story = h.story;
     let scope = h.scope;
     let rests = h.rests;
     Turn {
-        story,
         scope,
         rests,
         step,
@@ -55,11 +53,10 @@ fn turn_of(h: Heading, step: u8, tally: Tally) -> Turn
 }
 
 // The visit of a name, before which no item stands.
-fn name_visit(v: NameVisit, rules: Bracket) -> Visit
-    ensures { result ≡ name_visit v rules }
+fn name_visit(v: NameVisit) -> Visit
+    ensures { result ≡ name_visit v }
 {
     let turn = v.turn;
-    let story = turn.story;
     let scope = turn.scope;
     let rests = turn.rests;
     let tally = turn.tally;
@@ -70,7 +67,6 @@ fn name_visit(v: NameVisit, rules: Bracket) -> Visit
         leaves: false,
     };
     let at = At {
-        story,
         scope,
         rests,
         thing,
@@ -78,7 +74,6 @@ fn name_visit(v: NameVisit, rules: Bracket) -> Visit
     };
     Visit {
         at,
-        rules,
         place: v.place,
         named: v.named,
         tally,
@@ -87,107 +82,94 @@ fn name_visit(v: NameVisit, rules: Bracket) -> Visit
 
 // Visits one name: each rule of the step that is broken there is heard.
 fn visit_name(
-    file: &[u8],
-    kept: &[u32],
-    names: &[u32],
-    targets: &[u64],
+    story: &Story<'_>,
     knot: &[u32],
     body: &[u32],
     list: &mut [u32],
     v: NameVisit,
 ) -> Tally
-    requires { TurnReady file.now kept.now names.now targets.now knot.now body.now v.turn }
-    ensures { NameHeard file.now kept.now list.old v result list.new }
+    requires { TurnReady story.now.file.now story.now.kept.now knot.now body.now v.turn }
+    ensures { NameHeard story.now.view.sections story.now.file.now story.now.kept.now list.old v result list.new }
 {
     let turn = v.turn;
-    let rules = bracket_of(turn.step);
-    let visit = name_visit(v, rules);
-    visit_thing(file, kept, names, targets, knot, body, list, visit)
+    let rules = turn.step.rules();
+    let visit = name_visit(v);
+    visit_thing(story, knot, body, rules, list, visit)
 }
 
 // STEP 12: the stitch's name at the heading's place.
 pub fn validate_stitch_name(
-    file: &[u8],
-    kept: &[u32],
-    names: &[u32],
-    targets: &[u64],
+    story: &Story<'_>,
     knot: &[u32],
     body: &[u32],
     list: &mut [u32],
     h: Heading,
 ) -> Tally
-    requires { HeadingReady file.now kept.now names.now targets.now knot.now body.now h }
-    ensures { (s : rules.Scope) → ScopeIs file.now kept.now h.story.sections h.scope s → heard result list.new ≡ hear_runs (kept_story h.story.sections file.now) (heard h.tally list.old) (over s (name_item stitch_name h.at (named file.now h.at) ∷ []) (s12 ∷ [])) }
+    requires { HeadingReady story.now.file.now story.now.kept.now knot.now body.now h }
+    ensures { (s : rules.Scope) → ScopeIs story.now.file.now story.now.kept.now story.now.view.sections h.scope s → heard result list.new ≡ hear_runs (kept_story story.now.view.sections story.now.file.now) (heard h.tally list.old) (over s (name_item stitch_name h.at (named story.now.file.now h.at) ∷ []) (s12 ∷ [])) }
 {
     let tally = h.tally;
-    let turn = turn_of(h, 12, tally);
+    let turn = turn_of(h, Step::StitchName, tally);
     let v = NameVisit {
         turn,
         sort: STITCH_NAME,
         place: h.at,
         named: h.at,
     };
-    next_run(visit_name(file, kept, names, targets, knot, body, list, v))
+    next_run(visit_name(story, knot, body, list, v))
 }
 
 // STEP 6: the names that the count byte of the parameters counts.
 pub fn validate_flow_parameter_names(
-    file: &[u8],
-    kept: &[u32],
-    names: &[u32],
-    targets: &[u64],
+    story: &Story<'_>,
     knot: &[u32],
     body: &[u32],
     list: &mut [u32],
     h: Heading,
 ) -> Tally
-    requires heading_ready { HeadingReady file.now kept.now names.now targets.now knot.now body.now h }
-    requires params_in_bounds { h.scope.params < length file.now }
-    ensures { (s : rules.Scope) → ScopeIs file.now kept.now h.story.sections h.scope s → heard result list.new ≡ hear_runs (kept_story h.story.sections file.now) (heard h.tally list.old) (over s (param_items (counted_in h.scope.params (drop h.scope.params file.now))) (s6 ∷ [])) }
+    requires heading_ready { HeadingReady story.now.file.now story.now.kept.now knot.now body.now h }
+    requires params_in_bounds { h.scope.params < length story.now.file.now }
+    ensures { (s : rules.Scope) → ScopeIs story.now.file.now story.now.kept.now story.now.view.sections h.scope s → heard result list.new ≡ hear_runs (kept_story story.now.view.sections story.now.file.now) (heard h.tally list.old) (over s (param_items (counted_in h.scope.params (drop h.scope.params story.now.file.now))) (s6 ∷ [])) }
 {
+    let file = story.file;
     let params = h.scope.params;
     let mut tally = h.tally;
-    let mut left = file[params];
     let mut at = params + 1;
-    while 0 < left {
+    for _ in 0..file[params] {
         if is_full(tally) {
             return tally;
         }
         if file.len() <= at {
             return next_run(tally);
         }
-        let turn = turn_of(h, 6, tally);
+        let turn = turn_of(h, Step::Parameters, tally);
         let v = NameVisit {
             turn,
             sort: PARAMETER,
             place: at,
             named: at,
         };
-        tally = visit_name(file, kept, names, targets, knot, body, list, v);
-        at = at + (1 + (file[at] as usize));
-        left -= 1;
+        tally = visit_name(story, knot, body, list, v);
+        at += 1 + file[at] as usize;
     }
     next_run(tally)
 }
 
 // STEP 5: of a function its first byte, then its own list; of another flow nothing.
 pub fn validate_function_purity(
-    file: &[u8],
-    kept: &[u32],
-    names: &[u32],
-    targets: &[u64],
+    story: &Story<'_>,
     knot: &[u32],
     body: &mut [u32],
     list: &mut [u32],
     h: Heading,
 ) -> Tally
-    requires { HeadingReady file.now kept.now names.now targets.now knot.now body.old h }
-    ensures list_after { (s : rules.Scope) (f : Flow) → ScopeIs file.now kept.now h.story.sections h.scope s → FlowIs file.now kept.now h f → heard result list.new ≡ hear_runs (kept_story h.story.sections file.now) (heard h.tally list.old) (over s (purity_items h.function f) (s5 ∷ [])) }
+    requires { HeadingReady story.now.file.now story.now.kept.now knot.now body.old h }
+    ensures list_after { (s : rules.Scope) (f : Flow) → ScopeIs story.now.file.now story.now.kept.now story.now.view.sections h.scope s → FlowIs story.now.file.now story.now.kept.now h f → heard result list.new ≡ hear_runs (kept_story story.now.view.sections story.now.file.now) (heard h.tally list.old) (over s (purity_items h.function f) (s5 ∷ [])) }
     ensures body_unchanged { body.new ≡ body.old }
 {
     let tally = h.tally;
     if h.function {
-        let first = turn_of(h, 5, tally);
+        let first = turn_of(h, Step::Purity, tally);
         let flow = h.scope.flow;
         let v = NameVisit {
             turn: first,
@@ -195,9 +177,9 @@ pub fn validate_function_purity(
             place: h.at,
             named: flow,
         };
-        let after = visit_name(file, kept, names, targets, knot, body, list, v);
-        let turn = turn_of(h, 5, after);
-        return validate_nodes(file, kept, names, targets, knot, body, list, turn);
+        let after = visit_name(story, knot, body, list, v);
+        let turn = turn_of(h, Step::Purity, after);
+        return validate_nodes(story, knot, body, list, turn);
     }
     next_run(tally)
 }

@@ -23,18 +23,6 @@ pub const ABSENT: usize = 4294967295;
 // The last number that a run can have.
 const LAST: usize = 4294967295;
 
-// What was heard so far: at most how many breaches, how many, the number of the run, and the last breach with the places of its names.
-#[derive(Clone, Copy)]
-pub struct Tally {
-    pub limit: usize,
-    pub count: usize,
-    pub instance: usize,
-    pub rule: Rule,
-    pub place: usize,
-    pub first: usize,
-    pub second: usize,
-}
-
 // The places of the two names in a breach's text.
 #[derive(Clone, Copy)]
 pub struct Names {
@@ -42,7 +30,24 @@ pub struct Names {
     pub second: usize,
 }
 
-// Nothing heard yet, before the first run; the rule and the places mean nothing.
+// A breach that was heard: its rule, its place, and the places of the names in its text.
+#[derive(Clone, Copy)]
+pub struct Last {
+    pub rule: Rule,
+    pub place: usize,
+    pub names: Names,
+}
+
+// What was heard so far: at most how many breaches, how many, the number of the run, and the last breach.
+#[derive(Clone, Copy)]
+pub struct Tally {
+    pub limit: usize,
+    pub count: usize,
+    pub instance: usize,
+    pub last: Option<Last>,
+}
+
+// Nothing heard yet, before the first run.
 pub fn start(limit: usize) -> Tally
     ensures { result ≡ fresh limit }
 {
@@ -50,10 +55,7 @@ pub fn start(limit: usize) -> Tally
         limit,
         count: 0,
         instance: 0,
-        rule: Rule::FunctionDivertedTo,
-        place: 0,
-        first: 0,
-        second: 0,
+        last: None,
     }
 }
 
@@ -68,34 +70,33 @@ pub fn is_full(t: Tally) -> bool
 fn names_of(rule: Rule, flow: usize, own: usize) -> Names
     ensures { result ≡ names_at (names_of rule flow own) }
 {
-    let number = rule_number(rule);
-    if number == 11 {
-        return Names {
+    match rule {
+        Rule::ChoiceUndiverted => Names {
             first: ABSENT,
             second: ABSENT,
-        };
-    }
-    if number == 12 {
-        return Names {
+        },
+        Rule::FunctionWithStitches | Rule::FunctionWithChoice => Names {
             first: flow,
             second: ABSENT,
-        };
-    }
-    if number == 13 {
-        return Names {
-            first: flow,
-            second: ABSENT,
-        };
-    }
-    if number == 14 {
-        return Names {
+        },
+        Rule::FunctionWithDivert => Names {
             first: flow,
             second: own,
-        };
-    }
-    Names {
-        first: own,
-        second: ABSENT,
+        },
+        Rule::FunctionDivertedTo
+        | Rule::TargetNotFound
+        | Rule::FlowCalled
+        | Rule::NameIsFunction
+        | Rule::NameIsGlobal
+        | Rule::TempIsParameter
+        | Rule::TempIsLabel
+        | Rule::ParameterUnmarked
+        | Rule::ParameterAlreadyMarked
+        | Rule::GatherRepeated
+        | Rule::VariableForbidden => Names {
+            first: own,
+            second: ABSENT,
+        },
     }
 }
 
@@ -134,10 +135,7 @@ pub fn hear(t: Tally, rule: Rule, place: usize, flow: usize, own: usize, list: &
         limit: t.limit,
         count: t.count + 1,
         instance: t.instance,
-        rule,
-        place,
-        first: names.first,
-        second: names.second,
+        last: Some(Last { rule, place, names }),
     }
 }
 
@@ -145,13 +143,7 @@ pub fn hear(t: Tally, rule: Rule, place: usize, flow: usize, own: usize, list: &
 fn later_run(instance: usize, many: usize) -> usize
     ensures { result ≡ onward instance many }
 {
-    if LAST <= instance {
-        return instance;
-    }
-    if many < LAST - instance {
-        return instance + many;
-    }
-    LAST
+    instance + many.min(LAST.saturating_sub(instance))
 }
 
 // So many runs that find nothing, unless it is full.
@@ -161,15 +153,9 @@ pub fn pass_runs(t: Tally, many: usize) -> Tally
     if is_full(t) {
         return t;
     }
-    let rule = t.rule;
     Tally {
-        limit: t.limit,
-        count: t.count,
         instance: later_run(t.instance, many),
-        rule,
-        place: t.place,
-        first: t.first,
-        second: t.second,
+        ..t
     }
 }
 

@@ -8,7 +8,7 @@ ghost use Rattle.steps.specs.Scopes.{root_scope, knot_scope, stitch_scope, has_s
 use crate::ABSENT;
 use broken::Scope;
 use items::runs::count_before;
-use searches::views::{FlowView, StitchView, StitchViewRead, stitch_view};
+use searches::views::{FlowView, StitchView, stitch_view};
 use story::Sections;
 
 // How many of the numbers have a place before this one, where so many are known to have one.
@@ -27,8 +27,8 @@ fn has_stitches(file: &[u8], at: usize, end: usize) -> bool
 {
     let view = stitch_view(file, at, end);
     match view {
-        StitchViewRead::View(_) => true,
-        StitchViewRead::None => false,
+        Some(_) => true,
+        None => false,
     }
 }
 

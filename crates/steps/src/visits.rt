@@ -8,17 +8,16 @@ ghost use Rattle.broken.specs.Scopes.{Ready};
 ghost use Rattle.steps.specs.Heard.{breach_of, heard, hear_all};
 ghost use Rattle.steps.specs.Visits.{LikeThing, BearsName, thing_of, found};
 
-use crate::brackets::Bracket;
 use crate::{Tally, hear};
-use broken::{At, Thing, is_broken};
+use broken::asked::{Asked, Story};
+use broken::{At, Thing};
 use items::items::{choice_has_explicit_divert, in_branch, named_at, sort_in};
 use rules::Rule;
 
-// A visit: the thing with all that a rule may ask, the rules, the places of the breach and of the thing's name, and what was heard before.
+// A visit: the thing with all that a rule may ask, the places of the breach and of the thing's name, and what was heard before.
 #[derive(Clone, Copy)]
 pub struct Visit {
     pub at: At,
-    pub rules: Bracket,
     pub place: usize,
     pub named: usize,
     pub tally: Tally,
@@ -55,40 +54,29 @@ fn hear_if(
     t
 }
 
-// THE VISIT: hears each rule of the bracket that is broken at the thing, in order.
+// THE VISIT: hears each of the rules that is broken at the thing, in order.
 pub fn visit_thing(
-    file: &[u8],
-    kept: &[u32],
-    names: &[u32],
-    targets: &[u64],
+    story: &Story<'_>,
     knot: &[u32],
     body: &[u32],
+    rules: &[Rule],
     list: &mut [u32],
     v: Visit,
 ) -> Tally
-    requires { Ready file.now kept.now names.now targets.now knot.now body.now v.at }
-    ensures { (w : What) → LikeThing file.now v.at.thing w → heard result list.new ≡ hear_all (heard v.tally list.old) (found file.now kept.now v w) }
+    requires { Ready story.now.file.now story.now.kept.now knot.now body.now v.at }
+    ensures { (w : What) → LikeThing story.now.file.now v.at.thing w → heard result list.new ≡ hear_all (heard v.tally list.old) (found story.now.view.sections story.now.file.now story.now.kept.now v rules.now w) }
 {
     let at = v.at;
-    let flow = at.scope.flow;
-    let rules = v.rules;
-    let tally = v.tally;
-    if rules.many < 1 {
-        return tally;
+    let asked = Asked {
+        story,
+        knot,
+        body,
+        at,
+    };
+    let mut tally = v.tally;
+    for &rule in rules {
+        let broken = asked.is_broken(rule);
+        tally = hear_if(broken, rule, tally, v.place, at.scope.flow, v.named, list);
     }
-    let first = rules.first;
-    let one = is_broken(first, file, kept, names, targets, knot, body, at);
-    let tally = hear_if(one, first, tally, v.place, flow, v.named, list);
-    if rules.many < 2 {
-        return tally;
-    }
-    let second = rules.second;
-    let two = is_broken(second, file, kept, names, targets, knot, body, at);
-    let tally = hear_if(two, second, tally, v.place, flow, v.named, list);
-    if rules.many < 3 {
-        return tally;
-    }
-    let third = rules.third;
-    let three = is_broken(third, file, kept, names, targets, knot, body, at);
-    hear_if(three, third, tally, v.place, flow, v.named, list)
+    tally
 }

@@ -1,4 +1,7 @@
 -- Equal bytes at two places are the same to the rules, but for places. Assumes nothing.
+use Rattle.std.specs.Prelude.{Result, Ok, Err}
+use Rattle.fields.specs.declared.Refusal.{Refusal}
+use Rattle.story.specs.declared.Heading.{Heading}
 use mathlib.Core.Path.{◌≡◌, refl, sym, ◌∙◌, ap}
 use mathlib.Core.List.{List, [], ◌∷◌, map}
 use Prim.Native.Nat.{ℕ, zero, suc, ◌+◌}
@@ -7,8 +10,6 @@ use Rattle.names.specs.Words.{Bytes}
 use Rattle.records.specs.Trace.{Trace, Record, met, moved, Ending, well, refused, ends}
 use Rattle.records.specs.Grammar.{nodes}
 use Rattle.records.proofs.Moved.{met-from-0}
-use Rattle.story.specs.declared.HeadingRead.{HeadingRead}
-use Rattle.story.specs.declared.HeadingRead.TheVariants as heading
 use Rattle.records.specs.Items.{What, item_as, item_of, items_ended, items_in}
 use Rattle.story.specs.Story.{Stitch, Flow, words, whats}
 use Rattle.story.specs.Headings.{heading_of}
@@ -53,15 +54,15 @@ pub record SameStitch (x y : Stitch) : Type 0 where
   pub marks : words x.marks ≡ words y.marks
   pub body : whats x.body ≡ whats y.body
 
-same-titled-at : (a b : ℕ) (s : List ℕ) (r : HeadingRead) → SameStitch (titled_at r a s) (titled_at r b s)
+same-titled-at : (a b : ℕ) (s : List ℕ) (r : Result Heading Refusal) → SameStitch (titled_at r a s) (titled_at r b s)
 unfolding titled_at
-same-titled-at a b s (heading.At h) = record {
+same-titled-at a b s (Ok h) = record {
   name = refl;
   params = same-counted (a + h.params) (b + h.params) (drop h.params s);
   marks = same-counted (a + h.marks) (b + h.marks) (drop h.marks s);
   body = same-items (a + h.nodes) (b + h.nodes) (part h.nodes h.end s);
 }
-same-titled-at a b s (heading.Refused x) = record { name = refl; params = refl; marks = refl; body = refl }
+same-titled-at a b s (Err x) = record { name = refl; params = refl; marks = refl; body = refl }
 
 same-titled : (a b : ℕ) (s : List ℕ) → SameStitch (titled_in a s) (titled_in b s)
 unfolding titled_in

@@ -1,4 +1,5 @@
 -- What holds of the kept numbers of a file that `read_of` opens. Assumes nothing.
+use Rattle.std.specs.Prelude.{Ok}
 use mathlib.Core.Path.{◌≡◌, refl}
 use mathlib.Core.List.{List}
 use Prim.Native.Nat.{ℕ, ◌+◌, ◌*◌, ◌≤◌}
@@ -6,7 +7,6 @@ use lib.ListN.{length}
 use Rattle.names.specs.Words.{Sorted, each}
 use Rattle.records.specs.Trace.{well, ends}
 use Rattle.story.specs.declared.Sections.{Sections}
-use Rattle.story.specs.declared.Opened.TheVariants as opened
 use Rattle.story.specs.File.{read_of, sections_read, story_in, InOrder}
 use Rattle.story.proofs.Opening.{sections-well}
 use Rattle.story.proofs.Places.{ItemBefore}
@@ -17,7 +17,7 @@ use Rattle.story.proofs.Weights
 use Rattle.story.proofs.Standing
 use Rattle.story.proofs.BodyRuns
 
-module _ (file : List ℕ) (c : Sections) (e : read_of file ≡ opened.At c) where
+module _ (file : List ℕ) (c : Sections) (e : read_of file ≡ Ok c) where
   in_order : InOrder c file
   in_order = (readable file c refl e).order
 

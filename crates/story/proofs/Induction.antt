@@ -1,5 +1,6 @@
 -- What holds of every reading of names, nodes and flows: a statement on traces between two places that each way of the grammar to build a reading
 -- keeps; and the same of two readings of the same bytes that differ in how they read the records there. Assumes nothing.
+use Rattle.std.specs.Prelude.{Result, Option, Ok, Err, Some, None}
 use mathlib.Core.Path.{◌≡◌, refl}
 use mathlib.Core.Logic.{◌⊎◌, inl, inr}
 use mathlib.Core.List.Memᴰ
@@ -15,10 +16,6 @@ use Rattle.fields.specs.declared.Role.{Role}
 use Rattle.fields.specs.declared.Role.TheVariants.{Node, Branch, Cond, Visited}
 use Rattle.fields.specs.declared.Body.{Body}
 use Rattle.fields.specs.declared.Body.TheVariants as body
-use Rattle.fields.specs.declared.FlagRead.{FlagRead}
-use Rattle.fields.specs.declared.FlagRead.TheVariants as flag
-use Rattle.fields.specs.declared.Kinded.{Kinded}
-use Rattle.fields.specs.declared.Kinded.TheVariants as kinded
 use Rattle.fields.specs.Bytes.{Head, Span, pick, head_of, list_of, name_of, flag_of}
 use Rattle.fields.specs.Kinds.{kind_of}
 use Rattle.fields.proofs.Laws.{head-fits, list-fits, name-fits, head-refusal, list-refusal, name-refusal, off-fits, on_fits}
@@ -35,11 +32,11 @@ pub data OfReading : Refusal → Type 0 where
   deep : OfReading Deep
 
 -- a flag is refused by 4 or 5
-flag-refusal : (s : List ℕ) (r : Refusal) → flag_of s ≡ flag.Refused r → OfReading r
+flag-refusal : (s : List ℕ) (r : Refusal) → flag_of s ≡ Err r → OfReading r
 unfolding flag_of
 flag-refusal s r e = by_tests (ltb (length s) 1) (eqb (get_or s 0 0) 0) (eqb (get_or s 0 0) 1) e
   where
-    by_tests : (a b c : Bool) → pick a (flag.Refused Short) (pick b flag.Off (pick c flag.On (flag.Refused Unknown))) ≡ flag.Refused r → OfReading r
+    by_tests : (a b c : Bool) → pick a (Err Short) (pick b (Ok false) (pick c (Ok true) (Err Unknown))) ≡ Err r → OfReading r
     by_tests true b c f = let same : Short ≡ r = cc in rw (← same) short
     by_tests false true c f = let z : ◌≡◌ {A = ℕ} 0 1 = cc in absurd (omega arith)
     by_tests false false true f = let z : ◌≡◌ {A = ℕ} 0 1 = cc in absurd (omega arith)
@@ -152,10 +149,10 @@ module _ (P : ℕ → ℕ → Trace → Trace → Type 0) (kept : KeptOfTwo P) w
   unfolding flagged_at
   flagged-holds j k j' k' h h' s = by_flag (flag_of s) refl
     where
-      by_flag : (x : FlagRead) → flag_of s ≡ x → P 0 (length s) (flagged_at x j j' s) (flagged_at x k k' s)
-      by_flag flag.Off e = after_holds 1 s j k h (off-fits s refl e)
-      by_flag flag.On e = after_holds 1 s j' k' h' (on_fits s refl e)
-      by_flag (flag.Refused r) e = kept.refused 0 (length s) r (flag-refusal s r e)
+      by_flag : (x : Result Bool Refusal) → flag_of s ≡ x → P 0 (length s) (flagged_at x j j' s) (flagged_at x k k' s)
+      by_flag (Ok false) e = after_holds 1 s j k h (off-fits s refl e)
+      by_flag (Ok true) e = after_holds 1 s j' k' h' (on_fits s refl e)
+      by_flag (Err r) e = kept.refused 0 (length s) r (flag-refusal s r e)
 
   moded-holds : (j k : Reading) → Holds j k → Holds (moded j) (moded k)
   unfolding moded
@@ -258,7 +255,7 @@ pub record Kept (P : ℕ → ℕ → Trace → Type 0) : Type 0 where
   pub refused : (lo hi : ℕ) (r : Refusal) → OfReading r → P lo hi (refuse r)
   pub both : {lo mid hi : ℕ} (t u : Trace) → lo ≤ mid → mid ≤ hi → P lo mid t → P mid hi u → P lo hi (and_then t u)
   pub further : (a lo hi : ℕ) (t : Trace) → P lo hi t → P (a + lo) (a + hi) (shift a t)
-  pub one : (left kind : ℕ) (role : Role) (s : List ℕ) (b : Body) → kind_of role kind ≡ kinded.Known b → P 0 (length s) (body_of b (record_of left) s)
+  pub one : (left kind : ℕ) (role : Role) (s : List ℕ) (b : Body) → kind_of role kind ≡ Some b → P 0 (length s) (body_of b (record_of left) s)
       → P 0 (5 + length s) (emit role kind 0 s (shift 5 (body_of b (record_of left) s)))
 
 module _ (P : ℕ → ℕ → Trace → Type 0) (kept : Kept P) where
@@ -279,15 +276,15 @@ module _ (P : ℕ → ℕ → Trace → Type 0) (kept : Kept P) where
   unfolding record_of too_deep whole
   record-holds zero role kind s = by_kind (kind_of role kind)
     where
-      by_kind : (x : Kinded) → P 0 (5 + length s) (too_deep x)
-      by_kind (kinded.Known b) = kept.refused 0 (5 + length s) Deep deep
-      by_kind kinded.None = kept.refused 0 (5 + length s) Unknown unknown
+      by_kind : (x : Option Body) → P 0 (5 + length s) (too_deep x)
+      by_kind (Some b) = kept.refused 0 (5 + length s) Deep deep
+      by_kind None = kept.refused 0 (5 + length s) Unknown unknown
   record-holds (suc left) role kind s =
       by_kind (kind_of role kind) refl (λ b. body-holds OfFirst of-first (record_of left) (record_of left) b (λ r h. record-holds left r) s)
     where
-      by_kind : (x : Kinded) → kind_of role kind ≡ x → ((b : Body) → P 0 (length s) (body_of b (record_of left) s)) → P 0 (5 + length s) (whole x (record_of left) role kind s)
-      by_kind (kinded.Known b) e inside = kept.one left kind role s b e (inside b)
-      by_kind kinded.None e inside = kept.refused 0 (5 + length s) Unknown unknown
+      by_kind : (x : Option Body) → kind_of role kind ≡ x → ((b : Body) → P 0 (length s) (body_of b (record_of left) s)) → P 0 (5 + length s) (whole x (record_of left) role kind s)
+      by_kind (Some b) e inside = kept.one left kind role s b e (inside b)
+      by_kind None e inside = kept.refused 0 (5 + length s) Unknown unknown
 
   -- a statement that is kept holds of the reading of any nodes
   pub nodes-hold : (s : List ℕ) → P 0 (length s) (nodes s)

@@ -1,4 +1,5 @@
 -- What is read well is joined, without a gap: names, parameters, pieces, records and node lists are the bytes that they were read from. Assumes nothing.
+use Rattle.std.specs.Prelude.{Ok}
 use mathlib.Core.Path.{◌≡◌, refl, sym, ◌∙◌, ap, subst}
 use mathlib.Core.Bool.{Bool, true, false}
 use mathlib.Core.List.{List, [], ◌∷◌, ◌++◌}
@@ -11,7 +12,6 @@ use lib.ListN.{length, get_or, take, drop, length-drop, take-append-drop}
 use lib.Seq.{length-take-le, take-add, drop-cons, drop-drop, get_or-take, get_or-drop}
 use Rattle.fields.specs.declared.Role.TheVariants.{Node}
 use Rattle.fields.specs.declared.Refusal.TheVariants.{Short}
-use Rattle.fields.specs.declared.Reach.TheVariants as reach
 use Rattle.fields.specs.Bytes.{Head, Span, pick, le32_at, head_of, list_of, name_of}
 use Rattle.fields.proofs.Laws.{head-fits, list-fits, name-fits, name-count}
 use Rattle.names.specs.Words.{each}
@@ -103,14 +103,14 @@ unfolding names_in
 names-joined at t good = names-joined-n (length t) at t (omega arith) good
 
 -- so many names: they are joined, and so many
-reach-joined : (b : ℕ) (s : List ℕ) (n p : ℕ) {e : ℕ} → p ≤ length s → names_reach s n p ≡ reach.To e
+reach-joined : (b : ℕ) (s : List ℕ) (n p : ℕ) {e : ℕ} → p ≤ length s → names_reach s n p ≡ Ok e
     → Joined IsName (b + p) (part p e s) (names_n n (b + p) (drop p s)) × (length (names_n n (b + p) (drop p s)) ≡ n)
 unfolding names_n names_reach reach_at
 reach-joined b s zero p {e} h q = let same : p ≡ e = cc in (no_bytes (part p e s) (omega (arith, part_length p e s (omega arith))), refl)
 reach-joined b s (suc n) p {e} h q = by_name (name_of (drop p s)) refl q (λ k. reach-joined b s n (p + (1 + k)))
   where
-    by_name : (r : Span) → name_of (drop p s) ≡ r → reach_at r (names_reach s n) p ≡ reach.To e
-        → ((k : ℕ) → p + (1 + k) ≤ length s → names_reach s n (p + (1 + k)) ≡ reach.To e
+    by_name : (r : Span) → name_of (drop p s) ≡ r → reach_at r (names_reach s n) p ≡ Ok e
+        → ((k : ℕ) → p + (1 + k) ≤ length s → names_reach s n (p + (1 + k)) ≡ Ok e
         → Joined IsName (b + (p + (1 + k))) (part (p + (1 + k)) e s) (names_n n (b + (p + (1 + k))) (drop (p + (1 + k)) s)) × (length (names_n n (b + (p + (1 + k))) (drop (p + (1 + k)) s)) ≡ n))
         → Joined IsName (b + p) (part p e s) (names_n (suc n) (b + p) (drop p s)) × (length (names_n (suc n) (b + p) (drop p s)) ≡ suc n)
     by_name (Span.Bytes k) told q later =
@@ -122,7 +122,7 @@ reach-joined b s (suc n) p {e} h q = by_name (name_of (drop p s)) refl q (λ k. 
     by_name (Span.Refused x) told q later = let z : ◌≡◌ {A = ℕ} 0 1 = cc in absurd (omega arith)
 
 -- a count byte and so many names
-pub counted-joined : (b : ℕ) (s : List ℕ) (p : ℕ) {e : ℕ} → counted_reach s p ≡ reach.To e → AreCounted (b + p) (part p e s) (counted_in (b + p) (drop p s))
+pub counted-joined : (b : ℕ) (s : List ℕ) (p : ℕ) {e : ℕ} → counted_reach s p ≡ Ok e → AreCounted (b + p) (part p e s) (counted_in (b + p) (drop p s))
 unfolding counted_in
 counted-joined b s p {e} q =
     let c = counted-read s p q in

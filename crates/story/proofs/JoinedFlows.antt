@@ -1,4 +1,5 @@
 -- A title, a stitch and a flow that are read well are their parts joined, without a gap. Assumes nothing.
+use Rattle.std.specs.Prelude.{Ok, Err}
 use mathlib.Core.Path.{◌≡◌, refl, sym, ◌∙◌, ap, subst}
 use mathlib.Core.Bool.{Bool, true, false}
 use mathlib.Core.List.{List, [], ◌∷◌, ◌++◌}
@@ -8,7 +9,6 @@ use lib.Dec.{ltb, eqb, eqb→eq}
 use lib.ListN.{length, get_or, take, drop, length-drop, take-append-drop}
 use lib.Seq.{length-take-le, take_all, drop-cons, drop-drop}
 use Rattle.fields.specs.declared.Refusal.TheVariants.{Short, Unknown}
-use Rattle.fields.specs.declared.FlagRead.TheVariants as flag
 use Rattle.fields.specs.Bytes.{pick, flag_of}
 use Rattle.records.specs.Trace.{well, ends}
 use Rattle.records.specs.Grammar.{Reading, ending}
@@ -100,7 +100,7 @@ unfolding flag_of flag_ends
 flow-flag u good = by_tests (ltb (length u) 1) (eqb (get_or u 0 0) 0) (eqb (get_or u 0 0) 1) refl refl (rw (flow-ends u) at good)
   where
     by_tests : (i j k : Bool) → eqb (get_or u 0 0) 0 ≡ j → eqb (get_or u 0 0) 1 ≡ k
-        → flag_ends (pick i (flag.Refused Short) (pick j flag.Off (pick k flag.On (flag.Refused Unknown)))) (ends (titled stitches (drop 1 u))) ≡ well → Flagged (get_or u 0 0) k
+        → flag_ends (pick i (Err Short) (pick j (Ok false) (pick k (Ok true) (Err Unknown)))) (ends (titled stitches (drop 1 u))) ≡ well → Flagged (get_or u 0 0) k
     by_tests true j k p q e = let z : ◌≡◌ {A = ℕ} 0 1 = cc in absurd (omega arith)
     by_tests false true true p q e = eqb→eq (get_or u 0 0) 1 (rw q tt)
     by_tests false true false p q e = eqb→eq (get_or u 0 0) 0 (rw p tt)

@@ -22,6 +22,7 @@ pub mod Whole
 pub mod WholeExample
 pub mod Titled
 pub mod TitleWalks
+pub mod Fits
 pub mod SectionWalks
 pub mod StoryItems
 pub mod Weights

@@ -1,4 +1,5 @@
 -- A name is what the file has at its place: in a part of the file, in a section, in a list of parameters, in a record. Assumes nothing.
+use Rattle.std.specs.Prelude.{Ok}
 use mathlib.Core.Path.{◌≡◌, refl, sym, ◌∙◌, ap}
 use mathlib.Core.List.Memᴰ
 use mathlib.Core.List.{List, [], ◌∷◌, Memᴰ}
@@ -12,7 +13,6 @@ use lib.Dec.{eqb, ltb}
 use lib.ListN.{length, get_or, take, drop, length-take, length-drop}
 use lib.Seq.{take_all, take-take, drop-drop, get_or-take, get_or-drop}
 use borrow.Author.Tests.{ltb-true, ltb-false}
-use Rattle.fields.specs.declared.Reach.TheVariants as reach
 use Rattle.fields.specs.Bytes.{Span, pick, name_of}
 use Rattle.fields.proofs.Laws.{name-fits, name-count}
 use Rattle.names.specs.Counted.{name_at}
@@ -103,13 +103,13 @@ names-as-file (suc n) {at} (x ∷ t) l good m i =
     (rw (names-n-step (suc n) at k (x ∷ t) (omega arith) refl f.1) at i)
 
 -- so many names
-pub reach-as-file : {file : List ℕ} {b : ℕ} {s : List ℕ} → Lies file b s → (n p : ℕ) {e : ℕ} → names_reach s n p ≡ reach.To e → (m : Name) → Memᴰ m (names_n n (b + p) (drop p s)) → AsFile file m
+pub reach-as-file : {file : List ℕ} {b : ℕ} {s : List ℕ} → Lies file b s → (n p : ℕ) {e : ℕ} → names_reach s n p ≡ Ok e → (m : Name) → Memᴰ m (names_n n (b + p) (drop p s)) → AsFile file m
 unfolding names_n names_reach reach_at
 reach-as-file l zero p q m i = absurd (Memᴰ.not-nil i)
 reach-as-file {file} {b} {s} l (suc n) p {e} q m i = by_name (name_of (drop p s)) refl q (λ k. reach-as-file l n (p + (1 + k)))
   where
-    by_name : (r : Span) → name_of (drop p s) ≡ r → reach_at r (names_reach s n) p ≡ reach.To e
-        → ((k : ℕ) → names_reach s n (p + (1 + k)) ≡ reach.To e → (m : Name) → Memᴰ m (names_n n (b + (p + (1 + k))) (drop (p + (1 + k)) s)) → AsFile file m)
+    by_name : (r : Span) → name_of (drop p s) ≡ r → reach_at r (names_reach s n) p ≡ Ok e
+        → ((k : ℕ) → names_reach s n (p + (1 + k)) ≡ Ok e → (m : Name) → Memᴰ m (names_n n (b + (p + (1 + k))) (drop (p + (1 + k)) s)) → AsFile file m)
         → AsFile file m
     by_name (Span.Bytes k) told q later =
         first-or-later (lies-drop l p) k told (names_n (suc n - 1) (b + p + (1 + k)) (drop (1 + k) (drop p s))) m
@@ -118,7 +118,7 @@ reach-as-file {file} {b} {s} l (suc n) p {e} q m i = by_name (name_of (drop p s)
     by_name (Span.Refused x) told q later = let z : ◌≡◌ {A = ℕ} 0 1 = cc in absurd (omega arith)
 
 -- a count byte and so many names
-pub counted-as-file : {file : List ℕ} {b : ℕ} {s : List ℕ} → Lies file b s → (p : ℕ) {e : ℕ} → counted_reach s p ≡ reach.To e → (m : Name) → Memᴰ m (counted_in (b + p) (drop p s)) → AsFile file m
+pub counted-as-file : {file : List ℕ} {b : ℕ} {s : List ℕ} → Lies file b s → (p : ℕ) {e : ℕ} → counted_reach s p ≡ Ok e → (m : Name) → Memᴰ m (counted_in (b + p) (drop p s)) → AsFile file m
 unfolding counted_in
 counted-as-file {file} {b} {s} l p q m i =
     reach-as-file l (get_or s p 0) (p + 1) (counted-read s p q).1 m

@@ -1,4 +1,5 @@
 -- The names of a readable file in file order: they rise, lie before the trailer, and are what the file has at their places. Assumes nothing.
+use Rattle.std.specs.Prelude.{Ok}
 use mathlib.Core.Path.{◌≡◌, refl, sym, ◌∙◌, ap}
 use mathlib.Core.List.Memᴰ
 use mathlib.Core.List.{List, [], ◌∷◌, ◌++◌, map, Memᴰ}
@@ -8,7 +9,6 @@ use Prim.Native.Nat.{ℕ, zero, suc, ◌+◌, ◌-◌, ◌≤◌, ◌<◌}
 use native.Mathlib.Omega.{arith}
 use lib.ListN.{length, get_or, take, drop, length-take, length-drop}
 use lib.Seq.{drop-drop}
-use Rattle.fields.specs.declared.Reach.TheVariants as reach
 use Rattle.fields.specs.Bytes.{Span, list_of}
 use Rattle.fields.proofs.Laws.{list-fits}
 use Rattle.names.specs.Words.{Sorted, only, each}
@@ -70,7 +70,7 @@ module _ {file : List ℕ} {b : ℕ} {t : List ℕ} (l : Lies file b t) where
   names-own good = record { rise = names-rise (length t) b t; within = name-within (length t) b t; as-file = names-as-file (length t) t l good }
 
   -- a count byte and so many names
-  counted-own : (p e : ℕ) → counted_reach t p ≡ reach.To e → Own file (b + p) (b + e) (counted_in (b + p) (drop p t))
+  counted-own : (p e : ℕ) → counted_reach t p ≡ Ok e → Own file (b + p) (b + e) (counted_in (b + p) (drop p t))
   unfolding counted_in part
   counted-own p e q = record { rise = counted-rise (b + p) (drop p t); within = between; as-file = counted-as-file l p q }
     where

@@ -1,4 +1,5 @@
 -- What is read in a part of the bytes is what is read in the bytes, where it lies in the part. Assumes nothing.
+use Rattle.std.specs.Prelude.{Ok}
 use mathlib.Core.Path.{◌≡◌, refl, sym, ◌∙◌}
 use mathlib.Core.List.{List}
 use Prim.Native.Nat.{ℕ, zero, suc, ◌+◌, ◌-◌, ◌≤◌}
@@ -7,7 +8,6 @@ use native.Mathlib.Numerals.{sub-one}
 use native.Mathlib.Omega.{arith}
 use lib.ListN.{length, get_or, take, drop, length-take, length-drop}
 use lib.Seq.{take-take, drop-drop, get_or-take, get_or-drop}
-use Rattle.fields.specs.declared.Reach.TheVariants as reach
 use Rattle.fields.specs.Bytes.{Span, name_of}
 use Rattle.fields.proofs.Laws.{name-fits, name-whole, name-count}
 use Rattle.records.proofs.Places.{drop-take}
@@ -32,13 +32,13 @@ front-part : (at m k : ℕ) (t : List ℕ) → 1 + k ≤ m → front at k (take 
 front-part at m k t h = rw (drop-take 1 m t, take-take k (m - 1) (drop 1 t) (omega arith))
 
 -- names in the bytes that they take
-pub names-part : (n b m at : ℕ) (s : List ℕ) {e : ℕ} → at ≤ length s → names_reach s n at ≡ reach.To e → e ≤ at + m → names_n n b (take m (drop at s)) ≡ names_n n b (drop at s)
+pub names-part : (n b m at : ℕ) (s : List ℕ) {e : ℕ} → at ≤ length s → names_reach s n at ≡ Ok e → e ≤ at + m → names_n n b (take m (drop at s)) ≡ names_n n b (drop at s)
 unfolding names_reach reach_at names_n
 names-part zero b m at s h q f = refl
 names-part (suc n) b m at s {e} h q f = by_name (name_of (drop at s)) refl q (λ k. names-part n (b + (1 + k)) (m - (1 + k)) (at + (1 + k)) s)
   where
-    by_name : (r : Span) → name_of (drop at s) ≡ r → reach_at r (names_reach s n) at ≡ reach.To e
-        → ((k : ℕ) → at + (1 + k) ≤ length s → names_reach s n (at + (1 + k)) ≡ reach.To e → e ≤ at + (1 + k) + (m - (1 + k))
+    by_name : (r : Span) → name_of (drop at s) ≡ r → reach_at r (names_reach s n) at ≡ Ok e
+        → ((k : ℕ) → at + (1 + k) ≤ length s → names_reach s n (at + (1 + k)) ≡ Ok e → e ≤ at + (1 + k) + (m - (1 + k))
         → names_n n (b + (1 + k)) (take (m - (1 + k)) (drop (at + (1 + k)) s)) ≡ names_n n (b + (1 + k)) (drop (at + (1 + k)) s))
         → names_n (suc n) b (take m (drop at s)) ≡ names_n (suc n) b (drop at s)
     by_name (Span.Bytes k) p q later =
@@ -51,7 +51,7 @@ names-part (suc n) b m at s {e} h q f = by_name (name_of (drop at s)) refl q (λ
     by_name (Span.Refused x) p q later = let z : ◌≡◌ {A = ℕ} 0 1 = cc in absurd (omega arith)
 
 -- a count byte and so many names, in the bytes that they take
-pub counted-part : (b at : ℕ) (s : List ℕ) {e : ℕ} → counted_reach s at ≡ reach.To e → counted_in b (part at e s) ≡ counted_in b (drop at s)
+pub counted-part : (b at : ℕ) (s : List ℕ) {e : ℕ} → counted_reach s at ≡ Ok e → counted_in b (part at e s) ≡ counted_in b (drop at s)
 unfolding counted_in part
 counted-part b at s {e} q =
     let c = counted-read s at q in

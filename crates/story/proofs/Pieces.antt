@@ -1,12 +1,11 @@
 -- Names and pieces to the end: one of them, then the rest. Assumes nothing.
+use Rattle.std.specs.Prelude.{Result, Ok}
 use mathlib.Core.Path.{◌≡◌, refl}
 use mathlib.Core.List.{List}
 use Prim.Native.Nat.{ℕ, ◌+◌, ◌-◌, ◌≤◌, ◌<◌}
 use native.Mathlib.Omega.{arith}
 use lib.ListN.{length, take, drop}
 use Rattle.fields.specs.declared.Refusal.{Refusal}
-use Rattle.fields.specs.declared.Reach.{Reach}
-use Rattle.fields.specs.declared.Reach.TheVariants as reach
 use Rattle.fields.specs.Bytes.{Span, list_of, name_of, span_reach}
 use Rattle.fields.proofs.Laws.{span_to}
 use Rattle.records.specs.Trace.{shift, well, refused, ends}
@@ -36,7 +35,7 @@ module _ (s : List ℕ) where
   names-on k h p q = rw (repeat-step named named-local s h, ← p, q) (ends-shift (1 + k) (repeat named (drop (1 + k) s)))
 
   -- the same, as the code learns of the first
-  pub names-to : (to : ℕ) {r : Reach} → 0 < length s → r ≡ span_reach 1 (name_of s) → r ≡ reach.To to → ends (names s) ≡ ends (names (drop to s))
+  pub names-to : (to : ℕ) {r : Result ℕ Refusal} → 0 < length s → r ≡ span_reach 1 (name_of s) → r ≡ Ok to → ends (names s) ≡ ends (names (drop to s))
   names-to to h e q =
       let first = span_to 1 (name_of s) e to q in
       rw (← first.1) (names-on (to - 1) h refl first.0)

@@ -1,4 +1,7 @@
 -- Places rise: along names, along the items of a body, and along pieces; and a flow begins before its items. Each holds of all bytes. Assumes nothing.
+use Rattle.std.specs.Prelude.{Result, Ok, Err}
+use Rattle.fields.specs.declared.Refusal.{Refusal}
+use Rattle.story.specs.declared.Heading.{Heading}
 use mathlib.Core.Path.{◌≡◌, ap}
 use mathlib.Core.List.Memᴰ
 use mathlib.Core.List.{List, [], ◌∷◌, map, Memᴰ}
@@ -12,8 +15,6 @@ use Rattle.records.specs.Trace.{Record, met, Ending, well, refused, ends}
 use Rattle.records.specs.Grammar.{nodes}
 use Rattle.records.proofs.Places.{places-rise, lies_within}
 use Rattle.story.specs.declared.Sections.{Sections}
-use Rattle.story.specs.declared.HeadingRead.{HeadingRead}
-use Rattle.story.specs.declared.HeadingRead.TheVariants as heading
 use Rattle.records.specs.Items.{Item, item_as, item_of, items_ended, items_in}
 use Rattle.story.specs.Story.{Name, Stitch, Flow}
 use Rattle.story.specs.Headings.{heading_of}
@@ -111,20 +112,20 @@ module _ {A : Type 0} (f : ℕ → List ℕ → A) where
 
 -- 4. Stitches and flows
 
-titled-body-rises : (at : ℕ) (s : List ℕ) (r : HeadingRead) → Sorted ItemBefore (titled_at r at s).body
+titled-body-rises : (at : ℕ) (s : List ℕ) (r : Result Heading Refusal) → Sorted ItemBefore (titled_at r at s).body
 unfolding titled_at
-titled-body-rises at s (heading.At h) = items-rise (at + h.nodes) (part h.nodes h.end s)
-titled-body-rises at s (heading.Refused x) = tt
+titled-body-rises at s (Ok h) = items-rise (at + h.nodes) (part h.nodes h.end s)
+titled-body-rises at s (Err x) = tt
 
-titled-params-rise : (at : ℕ) (s : List ℕ) (r : HeadingRead) → Sorted NameBefore (titled_at r at s).params
+titled-params-rise : (at : ℕ) (s : List ℕ) (r : Result Heading Refusal) → Sorted NameBefore (titled_at r at s).params
 unfolding titled_at
-titled-params-rise at s (heading.At h) = counted-rise (at + h.params) (drop h.params s)
-titled-params-rise at s (heading.Refused x) = tt
+titled-params-rise at s (Ok h) = counted-rise (at + h.params) (drop h.params s)
+titled-params-rise at s (Err x) = tt
 
-titled-begins : (at : ℕ) (s : List ℕ) (r : HeadingRead) (i : Item) → Memᴰ i (titled_at r at s).body → at ≤ i.place
+titled-begins : (at : ℕ) (s : List ℕ) (r : Result Heading Refusal) (i : Item) → Memᴰ i (titled_at r at s).body → at ≤ i.place
 unfolding titled_at
-titled-begins at s (heading.At h) i m = omega (arith, item-within (at + h.nodes) (part h.nodes h.end s) i m)
-titled-begins at s (heading.Refused x) i m = absurd (Memᴰ.not-nil m)
+titled-begins at s (Ok h) i m = omega (arith, item-within (at + h.nodes) (part h.nodes h.end s) i m)
+titled-begins at s (Err x) i m = absurd (Memᴰ.not-nil m)
 
 pub stitch-body-rises : (at : ℕ) (s : List ℕ) → Sorted ItemBefore (stitch_in at s).body
 unfolding stitch_in titled_in

@@ -1,4 +1,7 @@
 -- Plain items bear no label in any story that is read, and a story without them is one with fewer plain items. Assumes nothing.
+use Rattle.std.specs.Prelude.{Result, Ok, Err}
+use Rattle.fields.specs.declared.Refusal.{Refusal}
+use Rattle.story.specs.declared.Heading.{Heading}
 use mathlib.Core.Path.{◌≡◌, refl, sym, ◌∙◌, ap, ap₂, subst}
 use mathlib.Core.Bool.{Bool, true, false}
 use mathlib.Core.List.Memᴰ
@@ -11,8 +14,6 @@ use Rattle.fields.specs.Bytes.{pick}
 use Rattle.names.specs.Words.{only, each}
 use Rattle.records.specs.Trace.{Record}
 use Rattle.story.specs.declared.Sections.{Sections}
-use Rattle.story.specs.declared.HeadingRead.{HeadingRead}
-use Rattle.story.specs.declared.HeadingRead.TheVariants as heading
 use Rattle.records.specs.Items.{Kind, plain, temp, divert, tunnel, thread, call, variable, argument, choice, gather, parameter, stitch_name, flow_start, code, What, is, Item, labelled, what_of, item_as, item_of, items_in}
 use Rattle.story.specs.Story.{Name, Stitch, Flow, Story, words}
 use Rattle.story.specs.Headings.{heading_of}
@@ -93,9 +94,9 @@ titled-unlabelled : (at : ℕ) (s : List ℕ) → Unlabelled (titled_in at s).bo
 unfolding titled_in titled_at
 titled-unlabelled at s = by-heading (heading_of s)
   where
-    by-heading : (r : HeadingRead) → Unlabelled (titled_at r at s).body
-    by-heading (heading.At h) = items-unlabelled (at + h.nodes) (part h.nodes h.end s)
-    by-heading (heading.Refused r) = λ i m p. absurd (Memᴰ.not-nil m)
+    by-heading : (r : Result Heading Refusal) → Unlabelled (titled_at r at s).body
+    by-heading (Ok h) = items-unlabelled (at + h.nodes) (part h.nodes h.end s)
+    by-heading (Err r) = λ i m p. absurd (Memᴰ.not-nil m)
 
 pub stitch-unlabelled : (at : ℕ) (s : List ℕ) → Unlabelled (stitch_in at s).body
 unfolding stitch_in

@@ -1,22 +1,17 @@
 -- The parts of a readable file are readable: its sections, each name, each flow, each stitch, each list of nodes. Assumes nothing.
+use Rattle.std.specs.Prelude.{Result, Ok, Err, true, false, Bool}
 use mathlib.Core.Path.{◌≡◌, refl, sym, ◌∙◌, ap}
 use mathlib.Core.List.{List, [], ◌∷◌}
 use Prim.Native.Nat.{ℕ, ◌+◌, ◌≤◌, ◌<◌}
 use native.Mathlib.Omega.{arith}
 use lib.ListN.{length, take, drop}
 use Rattle.fields.specs.declared.Refusal.{Refusal}
-use Rattle.fields.specs.declared.FlagRead.{FlagRead}
-use Rattle.fields.specs.declared.FlagRead.TheVariants as flag
 use Rattle.fields.specs.Bytes.{Span, list_of, name_of, flag_of}
 use Rattle.fields.proofs.Laws.{list-fits, name-fits, off-fits, on_fits}
 use Rattle.records.specs.Trace.{shift, Ending, well, refused, ends}
 use Rattle.records.specs.Grammar.{Reading, repeat, ending, nodes, piece}
 use Rattle.story.specs.declared.Sections.{Sections}
-use Rattle.story.specs.declared.Opened.{Opened}
-use Rattle.story.specs.declared.Opened.TheVariants as opened
 use Rattle.story.specs.declared.Heading.{Heading}
-use Rattle.story.specs.declared.HeadingRead.{HeadingRead}
-use Rattle.story.specs.declared.HeadingRead.TheVariants as heading
 use Rattle.story.specs.Headings.{heading_of}
 use Rattle.story.specs.Flows.{names, titled, stitch, flow, flows, part, stitches}
 use Rattle.story.specs.File.{InOrder, opened_of, sections_read, read_ended, read_at, read_of}
@@ -37,18 +32,18 @@ pub record Readable (c : Sections) (s : List ℕ) : Type 0 where
   pub root : ends (nodes (part c.root c.flows s)) ≡ well
   pub flows : ends (flows (part c.flows c.end s)) ≡ well
 
-ended-well : (e : Ending) (c d : Sections) → read_ended e (opened.At d) ≡ opened.At c → (e ≡ well) × (d ≡ c)
+ended-well : (e : Ending) (c d : Sections) → read_ended e (Ok d) ≡ Ok c → (e ≡ well) × (d ≡ c)
 unfolding read_ended
 ended-well well c d p = (refl, cc)
 ended-well (refused x) c d p = let z : ◌≡◌ {A = ℕ} 0 1 = cc in absurd (omega arith)
 
-opened-well : (s : List ℕ) (c : Sections) (o : Opened) → read_at o s ≡ opened.At c → (o ≡ opened.At c) × (ends (sections_read c s) ≡ well)
+opened-well : (s : List ℕ) (c : Sections) (o : Result Sections Refusal) → read_at o s ≡ Ok c → (o ≡ Ok c) × (ends (sections_read c s) ≡ well)
 unfolding read_at
-opened-well s c (opened.At d) p =
-    let h = ended-well (ends (sections_read d s)) c d p in (ap opened.At h.1, rw (← h.1) h.0)
-opened-well s c (opened.Refused x) p = let z : ◌≡◌ {A = ℕ} 0 1 = cc in absurd (omega arith)
+opened-well s c (Ok d) p =
+    let h = ended-well (ends (sections_read d s)) c d p in (ap Ok h.1, rw (← h.1) h.0)
+opened-well s c (Err x) p = let z : ◌≡◌ {A = ℕ} 0 1 = cc in absurd (omega arith)
 
-pub readable : (s : List ℕ) (c : Sections) {r : Opened} → r ≡ read_of s → r ≡ opened.At c → Readable c s
+pub readable : (s : List ℕ) (c : Sections) {r : Result Sections Refusal} → r ≡ read_of s → r ≡ Ok c → Readable c s
 unfolding read_of
 readable s c p q =
     let o = opened-well s c (opened_of s) (sym p ∙ q) in
@@ -108,7 +103,7 @@ flows-pieces t = refl
 
 -- a title that is read well: its heading, its nodes, and what follows them
 pub record TitledWell (k : Reading) (h : Heading) (s : List ℕ) : Type 0 where
-  pub told : heading_of s ≡ heading.At h
+  pub told : heading_of s ≡ Ok h
   pub laid : Laid h s
   pub nodes : ends (nodes (part h.nodes h.end s)) ≡ well
   pub rest : ends (k (drop h.end s)) ≡ well
@@ -117,7 +112,7 @@ module _ (k : Reading) (s : List ℕ) (good : ends (titled k s) ≡ well) where
   traced : ends (title_trace (heading_of s) k s) ≡ well
   traced = sym (ap ends (titled-trace k s)) ∙ good
 
-  pub titled-well : (h : Heading) {r : HeadingRead} → r ≡ heading_of s → r ≡ heading.At h → TitledWell k h s
+  pub titled-well : (h : Heading) {r : Result Heading Refusal} → r ≡ heading_of s → r ≡ Ok h → TitledWell k h s
   unfolding title_trace
   titled-well h p q =
       let to = sym p ∙ q in
@@ -126,7 +121,7 @@ module _ (k : Reading) (s : List ℕ) (good : ends (titled k s) ≡ well) where
       let d = both-well (shift h.nodes inside) (shift h.end after) (rw to at traced) in
       record { told = to; laid = heading-laid s h p q; nodes = shift-well h.nodes inside d.0; rest = shift-well h.end after d.1 }
 
-  titled-never-refused : {x : Refusal} {r : HeadingRead} → r ≡ heading_of s → r ≡ heading.Refused x → ⊥
+  titled-never-refused : {x : Refusal} {r : Result Heading Refusal} → r ≡ heading_of s → r ≡ Err x → ⊥
   unfolding title_trace ends
   titled-never-refused p q = let e = rw (sym p ∙ q) at traced in let z : ◌≡◌ {A = ℕ} 0 1 = cc in omega arith
 
@@ -134,18 +129,18 @@ module _ (k : Reading) (s : List ℕ) (good : ends (titled k s) ≡ well) where
   pub titled-heading : (h : Heading) × TitledWell k h s
   titled-heading = by-heading (heading_of s) refl
     where
-      by-heading : (r : HeadingRead) → r ≡ heading_of s → (h : Heading) × TitledWell k h s
-      by-heading (heading.At h) p = (h, titled-well h p refl)
-      by-heading (heading.Refused x) p = absurd (titled-never-refused p refl)
+      by-heading : (r : Result Heading Refusal) → r ≡ heading_of s → (h : Heading) × TitledWell k h s
+      by-heading (Ok h) p = (h, titled-well h p refl)
+      by-heading (Err x) p = absurd (titled-never-refused p refl)
 
 -- 5. A flow and a stitch
 
 module _ (s : List ℕ) (good : ends (flow s) ≡ well) where
-  flag-well : (r : FlagRead) → r ≡ flag_of s → flag_ends r (ends (titled stitches (drop 1 s))) ≡ well → (1 ≤ length s) × (ends (titled stitches (drop 1 s)) ≡ well)
+  flag-well : (r : Result Bool Refusal) → r ≡ flag_of s → flag_ends r (ends (titled stitches (drop 1 s))) ≡ well → (1 ≤ length s) × (ends (titled stitches (drop 1 s)) ≡ well)
   unfolding flag_ends
-  flag-well flag.Off p e = (off-fits s p refl, e)
-  flag-well flag.On p e = (on_fits s p refl, e)
-  flag-well (flag.Refused x) p e = let z : ◌≡◌ {A = ℕ} 0 1 = cc in absurd (omega arith)
+  flag-well (Ok false) p e = (off-fits s p refl, e)
+  flag-well (Ok true) p e = (on_fits s p refl, e)
+  flag-well (Err x) p e = let z : ◌≡◌ {A = ℕ} 0 1 = cc in absurd (omega arith)
 
   -- after its flag a flow is a title and stitches
   pub flow-titled : (1 ≤ length s) × (ends (titled stitches (drop 1 s)) ≡ well)

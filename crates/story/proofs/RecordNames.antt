@@ -1,4 +1,5 @@
 -- A record whose sort has a name is read with a name at its place. Assumes nothing.
+use Rattle.std.specs.Prelude.{Option, Ok, Some, None}
 use mathlib.Core.Path.{◌≡◌, refl, sym, ◌∙◌}
 use mathlib.Core.List.{List, [], ◌∷◌}
 use mathlib.Core.Bool.{Bool, true, false}
@@ -12,9 +13,6 @@ use Rattle.fields.specs.declared.Role.{Role}
 use Rattle.fields.specs.declared.Role.TheVariants.{Node, Branch, Cond, Visited, Argument, Unvisited}
 use Rattle.fields.specs.declared.Body.{Body}
 use Rattle.fields.specs.declared.Body.TheVariants as body
-use Rattle.fields.specs.declared.FlagRead.TheVariants as flag
-use Rattle.fields.specs.declared.Kinded.{Kinded}
-use Rattle.fields.specs.declared.Kinded.TheVariants.{Known, None}
 use Rattle.fields.specs.Bytes.{Span, pick, name_of, flag_of}
 use Rattle.fields.specs.Kinds.{expr_kinds, expr_kind, cond_kinds, cond_kind, node_kinds, node_kind, kind_of}
 use Rattle.records.specs.Trace.{refuse, shift, well, ends}
@@ -47,7 +45,7 @@ moded-well k (x ∷ s) e = by_mode (ltb x 4) e
     by_mode false q = let z : ◌≡◌ {A = ℕ} 0 1 = cc in absurd (omega arith)
 
 -- a flag that is set
-flag-set : (s : List ℕ) → eqb (get_or s 0 0) 1 ≡ true → flag_of s ≡ flag.On
+flag-set : (s : List ℕ) → eqb (get_or s 0 0) 1 ≡ true → flag_of s ≡ (Ok true)
 unfolding flag_of
 flag-set [] e = absurd (omega (arith, eqb-true 0 1 e))
 flag-set (x ∷ s) e = rw (le-ltb (length (x ∷ s)) 1 (omega arith), eqb-true x 1 e)
@@ -59,45 +57,45 @@ flagged-well j k s on e = named-well k (drop 1 s) (sym (ends-shift 1 (named k (d
 -- 2. The tables
 
 -- where a payload is read well as its kind says, and its sort has a name, the name stands at its place
-record Agree (f : Role → Reader) (payload : List ℕ) (x : Kinded) (sort : Kind) : Type 0 where
-  has : (b : Body) → x ≡ Known b → ends (body_of b f payload) ≡ well → nameless sort payload ≡ false → HasName (drop (name_start sort) payload)
+record Agree (f : Role → Reader) (payload : List ℕ) (x : Option Body) (sort : Kind) : Type 0 where
+  has : (b : Body) → x ≡ Some b → ends (body_of b f payload) ≡ well → nameless sort payload ≡ false → HasName (drop (name_start sort) payload)
 
 -- kinds and sorts, entry by entry
 infixr 40 ◌also◌
-data Agrees (f : Role → Reader) (payload : List ℕ) : List Kinded → List Kind → Type 0 where
-  no_more : {xs : List Kinded} → Agrees f payload xs []
-  ◌also◌ : {x : Kinded} {y : Kind} {xs : List Kinded} {ys : List Kind} → Agree f payload x y → Agrees f payload xs ys → Agrees f payload (x ∷ xs) (y ∷ ys)
+data Agrees (f : Role → Reader) (payload : List ℕ) : List (Option Body) → List Kind → Type 0 where
+  no_more : {xs : List (Option Body)} → Agrees f payload xs []
+  ◌also◌ : {x : Option Body} {y : Kind} {xs : List (Option Body)} {ys : List Kind} → Agree f payload x y → Agrees f payload xs ys → Agrees f payload (x ∷ xs) (y ∷ ys)
 
 module _ (f : Role → Reader) (payload : List ℕ) where
-  agree-plain : {x : Kinded} → Agree f payload x plain
+  agree-plain : {x : Option Body} → Agree f payload x plain
   unfolding nameless
   agree-plain = record { has = λ b e q h. let z : ◌≡◌ {A = ℕ} 0 1 = cc in absurd (omega arith) }
 
   -- past the tables there is no name
-  agree_at : {xs : List Kinded} {ys : List Kind} → Agrees f payload xs ys → (k : ℕ) → Agree f payload (get_or xs k None) (get_or ys k plain)
+  agree_at : {xs : List (Option Body)} {ys : List Kind} → Agrees f payload xs ys → (k : ℕ) → Agree f payload (get_or xs k None) (get_or ys k plain)
   agree_at no_more k = agree-plain
   agree_at (a also rest) zero = a
   agree_at (a also rest) (suc k) = agree_at rest k
 
   -- a name at the front of the payload
-  agree-call : (r : Role) (sort : Kind) → name_start sort ≡ 0 → Agree f payload (Known (body.Call r)) sort
+  agree-call : (r : Role) (sort : Kind) → name_start sort ≡ 0 → Agree f payload (Some (body.Call r)) sort
   unfolding body_of
   agree-call r sort z = record { has = λ b e q h. let same : body.Call r ≡ b = cc in rw z (named-well (records (f r)) payload (rw (← same) at q)) }
 
-  agree-single : (sort : Kind) → name_start sort ≡ 0 → Agree f payload (Known body.Single) sort
+  agree-single : (sort : Kind) → name_start sort ≡ 0 → Agree f payload (Some body.Single) sort
   unfolding body_of
   agree-single sort z = record { has = λ b e q h. let same : body.Single ≡ b = cc in rw z (named-well ending payload (rw (← same) at q)) }
 
   -- after the mode of a temp, and after the flag of a choice
-  agree_assign : Agree f payload (Known body.Assign) (assigned payload)
+  agree_assign : Agree f payload (Some body.Assign) (assigned payload)
   unfolding body_of name_start nameless
   agree_assign = by_mode (eqb (get_or payload 0 0) 1)
     where
-      by_mode : (i : Bool) → Agree f payload (Known body.Assign) (pick i temp plain)
+      by_mode : (i : Bool) → Agree f payload (Some body.Assign) (pick i temp plain)
       by_mode true = record { has = λ b e q h. let same : body.Assign ≡ b = cc in moded-well (exact 1 (f Visited)) payload (rw (← same) at q) }
       by_mode false = agree-plain
 
-  agree-choice : Agree f payload (Known body.Choice) choice
+  agree-choice : Agree f payload (Some body.Choice) choice
   unfolding body_of name_start nameless
   agree-choice = record {
     has = λ b e q h.

@@ -1,4 +1,7 @@
 -- Where the records of a whole file stand: their places rise from the first to the last, and the bytes at their places are theirs. Assumes nothing.
+use Rattle.std.specs.Prelude.{Result, Ok, Err}
+use Rattle.fields.specs.declared.Refusal.{Refusal}
+use Rattle.story.specs.declared.Heading.{Heading}
 use mathlib.Core.Path.{◌≡◌, refl, ap, subst}
 use mathlib.Core.List.Memᴰ
 use mathlib.Core.List.{List, [], ◌∷◌, map, Memᴰ}
@@ -11,8 +14,6 @@ use Rattle.records.specs.Grammar.{Reading, repeat, ending, nodes, piece}
 use Rattle.records.specs.Stands.{Stands}
 use Rattle.records.proofs.Places.{Placed, placed-wider, placed-then, Places, rest-placed, part_placed, ending-places, repeat-places, piece-places, flagged-places, nodes-places, met-placed, met-rising}
 use Rattle.story.specs.declared.Sections.{Sections}
-use Rattle.story.specs.declared.HeadingRead.{HeadingRead}
-use Rattle.story.specs.declared.HeadingRead.TheVariants as heading
 use Rattle.records.specs.Items.{Item, item_as, item_of}
 use Rattle.story.specs.Headings.{heading_of}
 use Rattle.story.specs.Flows.{names, titled, stitch, stitches, flow, flows, part}
@@ -25,15 +26,15 @@ use Rattle.story.proofs.StoryItems.{story-items}
 
 -- 1. Stitches and flows place their records within their bytes
 
-title-places : (k : Reading) → Places k → (s : List ℕ) (r : HeadingRead) → r ≡ heading_of s → Placed s 0 (length s) (title_trace r k s)
+title-places : (k : Reading) → Places k → (s : List ℕ) (r : Result Heading Refusal) → r ≡ heading_of s → Placed s 0 (length s) (title_trace r k s)
 unfolding title_trace Placed part
-title-places k g s (heading.At h) e =
+title-places k g s (Ok h) e =
     let laid = heading-laid s h e refl in
     let n = h.end - h.nodes in
     let own = part_placed h.nodes n s nodes nodes-places (omega (arith, laid)) in
     placed-then s (shift h.nodes (nodes (take n (drop h.nodes s)))) (shift h.end (k (drop h.end s))) (omega (arith, laid)) laid.within
     (placed-wider s (shift h.nodes (nodes (take n (drop h.nodes s)))) (omega arith) (omega (arith, laid)) own) (rest-placed h.end s k g laid.within)
-title-places k g s (heading.Refused x) e = tt
+title-places k g s (Err x) e = tt
 
 titled-places : (k : Reading) → Places k → Places (titled k)
 titled-places k g s = rw (titled-trace k s) (title-places k g s (heading_of s) refl)

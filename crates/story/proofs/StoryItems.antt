@@ -1,4 +1,7 @@
 -- The items of a trace, and those of a readable file: the story's, in file order. Assumes nothing.
+use Rattle.std.specs.Prelude.{Result, Ok, Err, true, false, Bool}
+use Rattle.fields.specs.declared.Refusal.{Refusal}
+use Rattle.story.specs.declared.Heading.{Heading}
 use mathlib.Core.Path.{◌≡◌, refl, sym, ap, ◌∙◌}
 use mathlib.Core.List.{List, [], ◌∷◌, ◌++◌, map, append-nil, map-append}
 use Prim.Native.Nat.{ℕ, zero, suc, ◌+◌}
@@ -6,15 +9,11 @@ use native.Mathlib.Nat.{add_assoc, zero-add}
 use native.Mathlib.Omega.{arith}
 use lib.ListN.{length, take, drop}
 use lib.Seq.{drop-drop}
-use Rattle.fields.specs.declared.FlagRead.{FlagRead}
-use Rattle.fields.specs.declared.FlagRead.TheVariants as flag
 use Rattle.fields.specs.Bytes.{Span, list_of, flag_of}
 use Rattle.names.specs.Words.{each}
 use Rattle.records.specs.Trace.{Trace, and_then, shift, met, Ending, well, refused, ends}
 use Rattle.records.specs.Grammar.{Reading, repeat_n, repeat, ending, flagged_at, nodes, piece_at, piece}
 use Rattle.story.specs.declared.Sections.{Sections}
-use Rattle.story.specs.declared.HeadingRead.{HeadingRead}
-use Rattle.story.specs.declared.HeadingRead.TheVariants as heading
 use Rattle.records.specs.Items.{Item, item_of, items_ended, items_in}
 use Rattle.story.specs.Headings.{heading_of}
 use Rattle.story.specs.Flows.{names, titled, stitch, stitches, flow, flows, part, titled_at, titled_in, pieces_at, pieces_n, pieces_in, stitch_in, title_end, flow_in, flows_in}
@@ -78,32 +77,32 @@ module _ {A : Type 0} (g : Reading) (f : ℕ → List ℕ → A) (items : A → 
 
 -- 3. Stitches and flows
 
-stitch-at : (b : ℕ) (s : List ℕ) (r : HeadingRead) → ends (title_trace r ending s) ≡ well → items_of b (title_trace r ending s) ≡ (titled_at r b s).body
+stitch-at : (b : ℕ) (s : List ℕ) (r : Result Heading Refusal) → ends (title_trace r ending s) ≡ well → items_of b (title_trace r ending s) ≡ (titled_at r b s).body
 unfolding title_trace titled_at ends
-stitch-at b s (heading.At h) e =
+stitch-at b s (Ok h) e =
     let p = nodes (part h.nodes h.end s) in
     let q = ending (drop h.end s) in
     let w = both-well (shift h.nodes p) (shift h.end q) e in
     items-then b (shift h.nodes p) (shift h.end q) w.0
     ∙ rw (items-shift b h.nodes p, items-shift b h.end q, ending-items (b + h.end) (drop h.end s), append-nil (items_of (b + h.nodes) p))
     (items-in (b + h.nodes) (part h.nodes h.end s) (shift-well h.nodes p w.0))
-stitch-at b s (heading.Refused x) e = let z : ◌≡◌ {A = ℕ} 0 1 = cc in absurd (omega arith)
+stitch-at b s (Err x) e = let z : ◌≡◌ {A = ℕ} 0 1 = cc in absurd (omega arith)
 
 pub stitch-items : (b : ℕ) (s : List ℕ) → ends (stitch s) ≡ well → items_of (b + 4) (stitch s) ≡ stitch_items (stitch_in b s)
 unfolding stitch stitch_in titled_in
 stitch-items b s h = rw (titled-trace ending s) (stitch-at (b + 4) s (heading_of s) (sym (ap ends (titled-trace ending s)) ∙ h))
 
 -- a flow from its name on, which stands at b
-flow-at : (b : ℕ) (s : List ℕ) (r : HeadingRead) → ends (title_trace r stitches s) ≡ well
+flow-at : (b : ℕ) (s : List ℕ) (r : Result Heading Refusal) → ends (title_trace r stitches s) ≡ well
     → items_of b (title_trace r stitches s) ≡ (titled_at r b s).body ++ each stitch_items (pieces_in stitch_in (b + title_end r) (drop (title_end r) s))
 unfolding title_trace titled_at title_end ends
-flow-at b s (heading.At h) e =
+flow-at b s (Ok h) e =
     let p = nodes (part h.nodes h.end s) in
     let q = stitches (drop h.end s) in
     let w = both-well (shift h.nodes p) (shift h.end q) e in
     items-then b (shift h.nodes p) (shift h.end q) w.0
     ∙ rw (items-shift b h.nodes p, items-shift b h.end q, items-in (b + h.nodes) (part h.nodes h.end s) (shift-well h.nodes p w.0), pieces-items stitch stitch_in stitch_items stitch-items (b + h.end) (drop h.end s) (shift-well h.end q w.1))
-flow-at b s (heading.Refused x) e = let z : ◌≡◌ {A = ℕ} 0 1 = cc in absurd (omega arith)
+flow-at b s (Err x) e = let z : ◌≡◌ {A = ℕ} 0 1 = cc in absurd (omega arith)
 
 flow-named : (b : ℕ) (s : List ℕ) → ends (titled stitches (drop 1 s)) ≡ well → items_of (b + 5) (titled stitches (drop 1 s)) ≡ flow_items (flow_in b s)
 unfolding flow_in flow_items titled_in
@@ -112,7 +111,7 @@ flow-named b s h =
     rw (titled-trace stitches (drop 1 s), ← add_assoc b 5 (title_end r), ← drop-drop (title_end r) 1 s)
     (flow-at (b + 5) (drop 1 s) r (sym (ap ends (titled-trace stitches (drop 1 s))) ∙ h))
 
-flow-flagged : (b : ℕ) (s : List ℕ) (r : FlagRead) → ends (flagged_at r (titled stitches) (titled stitches) s) ≡ well
+flow-flagged : (b : ℕ) (s : List ℕ) (r : Result Bool Refusal) → ends (flagged_at r (titled stitches) (titled stitches) s) ≡ well
     → items_of (b + 4) (flagged_at r (titled stitches) (titled stitches) s) ≡ flow_items (flow_in b s)
 unfolding flagged_at ends
 flow-flagged b s r e = by_flag r e
@@ -123,10 +122,10 @@ flow-flagged b s r e = by_flag r e
     rest : ends (shift 1 (titled stitches (drop 1 s))) ≡ well → items_of (b + 4) (shift 1 (titled stitches (drop 1 s))) ≡ flow_items (flow_in b s)
     rest h = rw (items-shift (b + 4) 1 (titled stitches (drop 1 s)), five) (flow-named b s (shift-well 1 (titled stitches (drop 1 s)) h))
 
-    by_flag : (x : FlagRead) → ends (flagged_at x (titled stitches) (titled stitches) s) ≡ well → items_of (b + 4) (flagged_at x (titled stitches) (titled stitches) s) ≡ flow_items (flow_in b s)
-    by_flag flag.Off h = rest h
-    by_flag flag.On h = rest h
-    by_flag (flag.Refused x) h = let z : ◌≡◌ {A = ℕ} 0 1 = cc in absurd (omega arith)
+    by_flag : (x : Result Bool Refusal) → ends (flagged_at x (titled stitches) (titled stitches) s) ≡ well → items_of (b + 4) (flagged_at x (titled stitches) (titled stitches) s) ≡ flow_items (flow_in b s)
+    by_flag (Ok false) h = rest h
+    by_flag (Ok true) h = rest h
+    by_flag (Err x) h = let z : ◌≡◌ {A = ℕ} 0 1 = cc in absurd (omega arith)
 
 flow-items : (b : ℕ) (s : List ℕ) → ends (flow s) ≡ well → items_of (b + 4) (flow s) ≡ flow_items (flow_in b s)
 unfolding flow

@@ -1,4 +1,7 @@
 -- Flows and stitches as traces: a title, a list of nodes, and what follows; and names, which are no records. Assumes nothing.
+use Rattle.std.specs.Prelude.{Result, Ok, Err}
+use Rattle.fields.specs.declared.Refusal.{Refusal}
+use Rattle.story.specs.declared.Heading.{Heading}
 use mathlib.Core.Path.{◌≡◌, refl, ◌∙◌}
 use mathlib.Core.List.{List, [], ◌∷◌}
 use mathlib.Core.Bool.{Bool, true, false}
@@ -11,28 +14,24 @@ use lib.Seq.{drop-drop, drop-cons}
 use borrow.Author.Tests.{ltb-true, ltb-false}
 use Rattle.fields.specs.declared.Refusal.TheVariants.{Short}
 use Rattle.fields.specs.declared.Role.TheVariants.{Node}
-use Rattle.fields.specs.declared.Reach.{Reach}
-use Rattle.fields.specs.declared.Reach.TheVariants as reach
 use Rattle.fields.specs.Bytes.{Span, pick, list_of, name_of}
 use Rattle.records.specs.Trace.{Trace, done, refuse, and_then, shift, Ending, well, refused, ends}
 use Rattle.records.specs.Grammar.{Reading, Reader, named_at, named, piece_at, listed, record_of, nodes, records, repeat_n, repeat}
 use Rattle.records.proofs.Traces.{shift-then, shift-shift}
-use Rattle.story.specs.declared.HeadingRead.{HeadingRead}
-use Rattle.story.specs.declared.HeadingRead.TheVariants as heading
 use Rattle.story.specs.Headings.{reach_at, names_reach, counted_reach, list_at, marks_at, params_at, name_then, heading_of}
 use Rattle.story.specs.Flows.{names, names_then, counted, titled, part}
 
 -- 1. A title
 
 -- what reaches so far, followed by k
-unfoldable reach_trace : Reach → Reading → List ℕ → Trace
-reach_trace (reach.To e) k s = shift e (k (drop e s))
-reach_trace (reach.Refused r) k s = refuse r
+unfoldable reach_trace : Result ℕ Refusal → Reading → List ℕ → Trace
+reach_trace (Ok e) k s = shift e (k (drop e s))
+reach_trace (Err r) k s = refuse r
 
 -- a title, its nodes, and k
-unfoldable pub title_trace : HeadingRead → Reading → List ℕ → Trace
-title_trace (heading.At h) k s = and_then (shift h.nodes (nodes (part h.nodes h.end s))) (shift h.end (k (drop h.end s)))
-title_trace (heading.Refused r) k s = refuse r
+unfoldable pub title_trace : Result Heading Refusal → Reading → List ℕ → Trace
+title_trace (Ok h) k s = and_then (shift h.nodes (nodes (part h.nodes h.end s))) (shift h.end (k (drop h.end s)))
+title_trace (Err r) k s = refuse r
 
 names-trace : (n : ℕ) (k : Reading) (s : List ℕ) (at : ℕ) → shift at (names_then n k (drop at s)) ≡ reach_trace (names_reach s n at) k s
 unfolding names_then names_reach reach_trace reach_at named_at shift
@@ -51,7 +50,7 @@ counted-trace k s at = by-test (ltb at (length s)) refl
     one_on : at + 1 ≡ suc at
     one_on = omega arith
 
-    by-test : (i : Bool) → ltb at (length s) ≡ i → shift at (counted k (drop at s)) ≡ reach_trace (pick i (names_reach s (get_or s at 0) (at + 1)) (reach.Refused Short)) k s
+    by-test : (i : Bool) → ltb at (length s) ≡ i → shift at (counted k (drop at s)) ≡ reach_trace (pick i (names_reach s (get_or s at 0) (at + 1)) (Err Short)) k s
     by-test true t =
         rw (drop-cons s at 0 (ltb-true at (length s) t), shift-shift at 1 (names_then (get_or s at 0) k (drop (suc at) s)), one_on) (names-trace (get_or s at 0) k s (suc at))
     by-test false t = rw (none (drop at s) (omega (arith, length-drop at s, ltb-false at (length s) t)))
@@ -70,15 +69,15 @@ list-trace k s params marks list (Span.Bytes n) =
     rw (shift-then list (shift 4 (records body (take n (drop 4 (drop list s))))) (shift (4 + n) (k (drop (4 + n) (drop list s)))), shift-shift list 4 (records body (take n (drop 4 (drop list s)))), shift-shift list (4 + n) (k (drop (4 + n) (drop list s))), drop-drop 4 list s, drop-drop (4 + n) list s, ← add_assoc list 4 n, add-sub_cancel_left (list + 4) n)
 list-trace k s params marks list (Span.Refused x) = refl
 
-marks-trace : (k : Reading) (s : List ℕ) (params marks : ℕ) (r : Reach) → reach_trace r (listed body k) s ≡ title_trace (marks_at params marks r s) k s
+marks-trace : (k : Reading) (s : List ℕ) (params marks : ℕ) (r : Result ℕ Refusal) → reach_trace r (listed body k) s ≡ title_trace (marks_at params marks r s) k s
 unfolding marks_at reach_trace title_trace
-marks-trace k s params marks (reach.To list) = list-trace k s params marks list (list_of (drop list s))
-marks-trace k s params marks (reach.Refused x) = refl
+marks-trace k s params marks (Ok list) = list-trace k s params marks list (list_of (drop list s))
+marks-trace k s params marks (Err x) = refl
 
-params-trace : (k : Reading) (s : List ℕ) (params : ℕ) (r : Reach) → reach_trace r (counted (listed body k)) s ≡ title_trace (params_at params r s) k s
+params-trace : (k : Reading) (s : List ℕ) (params : ℕ) (r : Result ℕ Refusal) → reach_trace r (counted (listed body k)) s ≡ title_trace (params_at params r s) k s
 unfolding params_at reach_trace title_trace
-params-trace k s params (reach.To marks) = counted-trace (listed body k) s marks ∙ marks-trace k s params marks (counted_reach s marks)
-params-trace k s params (reach.Refused x) = refl
+params-trace k s params (Ok marks) = counted-trace (listed body k) s marks ∙ marks-trace k s params marks (counted_reach s marks)
+params-trace k s params (Err x) = refl
 
 name-trace : (k : Reading) (s : List ℕ) (r : Span) → named_at r (counted (counted (listed body k))) s ≡ title_trace (name_then r s) k s
 unfolding named_at name_then title_trace

@@ -1,4 +1,5 @@
 -- Names and pieces as the rules see them, one at a time. Assumes nothing.
+use Rattle.std.specs.Prelude.{Result, Ok}
 use mathlib.Core.Path.{◌≡◌, refl, sym, ◌∙◌, ap}
 use mathlib.Core.List.{List, [], ◌∷◌}
 use Prim.Native.Nat.{ℕ, zero, suc, ◌+◌, ◌-◌, ◌≤◌, ◌<◌}
@@ -10,8 +11,6 @@ use Rattle.fields.specs.declared.Refusal.{Refusal}
 use Rattle.fields.specs.Bytes.{Span, list_of, name_of}
 use Rattle.fields.proofs.Laws.{list-fits, name-count, name-fits}
 use Rattle.story.specs.declared.Heading.{Heading}
-use Rattle.story.specs.declared.HeadingRead.{HeadingRead}
-use Rattle.story.specs.declared.HeadingRead.TheVariants as heading
 use Rattle.story.specs.Story.{Name}
 use Rattle.records.specs.Items.{name_in, items_in}
 use Rattle.story.specs.Headings.{heading_of}
@@ -88,8 +87,8 @@ module _ {A : Type 0} (f : ℕ → List ℕ → A) where
 
 -- 3. A stitch and a flow, by their headings
 
-module _ (at : ℕ) (s : List ℕ) (h : Heading) {r : HeadingRead} where
-  pub titled-in : r ≡ heading_of s → r ≡ heading.At h
+module _ (at : ℕ) (s : List ℕ) (h : Heading) {r : Result Heading Refusal} where
+  pub titled-in : r ≡ heading_of s → r ≡ Ok h
       → titled_in at s
       ≡ record {
         name = record { at = at; bytes = name_in s };
@@ -100,7 +99,7 @@ module _ (at : ℕ) (s : List ℕ) (h : Heading) {r : HeadingRead} where
   unfolding titled_in titled_at
   titled-in p q = rw (← p, q)
 
-  pub flow-in : r ≡ heading_of (drop 1 s) → r ≡ heading.At h
+  pub flow-in : r ≡ heading_of (drop 1 s) → r ≡ Ok h
       → flow_in at s
       ≡ record {
         at = at;

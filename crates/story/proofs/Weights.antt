@@ -1,5 +1,8 @@
 -- What records weigh: five bytes of head, and one more where a record is not plain. Records that are read through weigh no more than
 -- their bytes, so that a file of L bytes has at most (L - 20) / 6 records that are not plain. Assumes nothing.
+use Rattle.std.specs.Prelude.{Result, Option, Ok, Err, Some, None}
+use Rattle.fields.specs.declared.Refusal.{Refusal}
+use Rattle.story.specs.declared.Heading.{Heading}
 use mathlib.Core.Path.{◌≡◌, refl, sym, ap, ◌∙◌}
 use mathlib.Core.Bool.{Bool, true, false}
 use mathlib.Core.List.{List, [], ◌∷◌}
@@ -12,10 +15,6 @@ use Rattle.fields.specs.declared.Role.{Role}
 use Rattle.fields.specs.declared.Role.TheVariants.{Node, Branch, Cond, Visited}
 use Rattle.fields.specs.declared.Body.{Body}
 use Rattle.fields.specs.declared.Body.TheVariants as body
-use Rattle.fields.specs.declared.FlagRead.{FlagRead}
-use Rattle.fields.specs.declared.FlagRead.TheVariants as flag
-use Rattle.fields.specs.declared.Kinded.{Kinded}
-use Rattle.fields.specs.declared.Kinded.TheVariants as kinded
 use Rattle.fields.specs.declared.Refusal.TheVariants.{Unknown}
 use Rattle.fields.specs.Bytes.{Head, Span, pick, head_of, list_of, name_of, flag_of}
 use Rattle.fields.specs.Kinds.{kind_of, node_kinds}
@@ -23,8 +22,6 @@ use Rattle.fields.proofs.Laws.{head-fits, list-fits, name-fits, off-fits, on_fit
 use Rattle.records.specs.Trace.{Trace, done, refuse, emit, and_then, shift, met, Ending, well, refused, ends}
 use Rattle.records.specs.Grammar.{Reading, Reader, front_at, front, ending, repeat_n, repeat, records, exact, piece_at, listed, named_at, named, flagged_at, flagged, moded, last, or_else, arms, options, tested, branch, body_of, whole, too_deep, record_of, nodes, piece}
 use Rattle.story.specs.declared.Sections.{Sections}
-use Rattle.story.specs.declared.HeadingRead.{HeadingRead}
-use Rattle.story.specs.declared.HeadingRead.TheVariants as heading
 use Rattle.records.specs.Items.{Kind, plain, code, sort_of, what_of, item_as, item_of}
 use Rattle.story.specs.Headings.{heading_of}
 use Rattle.story.specs.Flows.{names, titled, stitch, stitches, flow, flows, part}
@@ -90,11 +87,11 @@ own body.Sequence = 0
 own body.Assign = 1
 own body.Choice = 1
 
-light : Kinded → Kind → Bool
-light (kinded.Known b) k = ltb (weight k) (6 + own b)
-light kinded.None k = true
+light : Option Body → Kind → Bool
+light (Some b) k = ltb (weight k) (6 + own b)
+light None k = true
 
-none-light : (k : Kind) → light kinded.None k ≡ true
+none-light : (k : Kind) → light None k ≡ true
 unfolding light
 none-light k = refl
 
@@ -107,10 +104,10 @@ kind-light : (role : Role) (kind : ℕ) (payload : List ℕ) → light (kind_of 
 unfolding all-pairs light weight own
 kind-light = every-kind light none-light nodes-light refl refl refl refl
 
-kind-weighs : (role : Role) (kind : ℕ) (payload : List ℕ) (b : Body) → kind_of role kind ≡ kinded.Known b → weight (sort_of role kind payload) ≤ 5 + own b
+kind-weighs : (role : Role) (kind : ℕ) (payload : List ℕ) (b : Body) → kind_of role kind ≡ Some b → weight (sort_of role kind payload) ≤ 5 + own b
 unfolding light
 kind-weighs role kind payload b e =
-    omega (arith, ltb-true (weight (sort_of role kind payload)) (6 + own b) (sym (ap (λ (x : Kinded). light x (sort_of role kind payload)) e) ∙ kind-light role kind payload))
+    omega (arith, ltb-true (weight (sort_of role kind payload)) (6 + own b) (sym (ap (λ (x : Option Body). light x (sort_of role kind payload)) e) ∙ kind-light role kind payload))
 
 -- 3. The grammar: what is read through weighs no more than its bytes, a bytes less
 
@@ -188,10 +185,10 @@ flagged-weighs : (j k : Reading) → Weighs 0 j → Weighs 0 k → Weighs 1 (fla
 unfolding flagged_at ends
 flagged-weighs j k g h s = by_flag (flag_of s) refl
   where
-    by_flag : (x : FlagRead) → flag_of s ≡ x → ends (flagged_at x j k s) ≡ well → 1 + cost (flagged_at x j k s) ≤ length s
-    by_flag flag.Off e z = omega (arith, off-fits s refl e, cost-shift 1 (j (drop 1 s)), g (drop 1 s) (shift-well 1 (j (drop 1 s)) z), length-drop 1 s)
-    by_flag flag.On e z = omega (arith, on_fits s refl e, cost-shift 1 (k (drop 1 s)), h (drop 1 s) (shift-well 1 (k (drop 1 s)) z), length-drop 1 s)
-    by_flag (flag.Refused r) e z = let y : ◌≡◌ {A = ℕ} 0 1 = cc in absurd (omega arith)
+    by_flag : (x : Result Bool Refusal) → flag_of s ≡ x → ends (flagged_at x j k s) ≡ well → 1 + cost (flagged_at x j k s) ≤ length s
+    by_flag (Ok false) e z = omega (arith, off-fits s refl e, cost-shift 1 (j (drop 1 s)), g (drop 1 s) (shift-well 1 (j (drop 1 s)) z), length-drop 1 s)
+    by_flag (Ok true) e z = omega (arith, on_fits s refl e, cost-shift 1 (k (drop 1 s)), h (drop 1 s) (shift-well 1 (k (drop 1 s)) z), length-drop 1 s)
+    by_flag (Err r) e z = let y : ◌≡◌ {A = ℕ} 0 1 = cc in absurd (omega arith)
 
 moded-weighs : (k : Reading) → Weighs 0 k → Weighs 1 (moded k)
 unfolding moded ends cost
@@ -236,19 +233,19 @@ module _ (f : Role → Reader) (g : (r : Role) → WeighsRecord (f r)) where
   body-weighs body.Assign s = moded-weighs (named (exact 1 (f Visited))) (weaker (named (exact 1 (f Visited))) (named-weighs (exact 1 (f Visited)) (exact-weighs 1 (f Visited) (g Visited)))) s
   body-weighs body.Choice s = flagged-weighs (options f) (named (options f)) options-weigh (weaker (named (options f)) (named-weighs (options f) options-weigh)) s
 
-  whole-weighs : (x : Kinded) (role : Role) (kind : ℕ) (p : List ℕ) → kind_of role kind ≡ x → ends (whole x f role kind p) ≡ well → cost (whole x f role kind p) ≤ 5 + length p
+  whole-weighs : (x : Option Body) (role : Role) (kind : ℕ) (p : List ℕ) → kind_of role kind ≡ x → ends (whole x f role kind p) ≡ well → cost (whole x f role kind p) ≤ 5 + length p
   unfolding whole ends cost
-  whole-weighs (kinded.Known b) role kind p e z =
+  whole-weighs (Some b) role kind p e z =
       omega (arith, kind-weighs role kind p b e, cost-shift 5 (body_of b f p), body-weighs b p (shift-well 5 (body_of b f p) z))
-  whole-weighs kinded.None role kind p e z = let y : ◌≡◌ {A = ℕ} 0 1 = cc in absurd (omega arith)
+  whole-weighs None role kind p e z = let y : ◌≡◌ {A = ℕ} 0 1 = cc in absurd (omega arith)
 
 record-weighs : (left : ℕ) (role : Role) → WeighsRecord (record_of left role)
 unfolding record_of too_deep ends
 record-weighs zero role kind p z = by_kind (kind_of role kind) z
   where
-    by_kind : (x : Kinded) → ends (too_deep x) ≡ well → cost (too_deep x) ≤ 5 + length p
-    by_kind (kinded.Known b) z = let y : ◌≡◌ {A = ℕ} 0 1 = cc in absurd (omega arith)
-    by_kind kinded.None z = let y : ◌≡◌ {A = ℕ} 0 1 = cc in absurd (omega arith)
+    by_kind : (x : Option Body) → ends (too_deep x) ≡ well → cost (too_deep x) ≤ 5 + length p
+    by_kind (Some b) z = let y : ◌≡◌ {A = ℕ} 0 1 = cc in absurd (omega arith)
+    by_kind None z = let y : ◌≡◌ {A = ℕ} 0 1 = cc in absurd (omega arith)
 record-weighs (suc left) role kind p z = whole-weighs (record_of left) (record-weighs left) (kind_of role kind) role kind p refl z
 
 nodes-weigh : Weighs 0 nodes
@@ -257,14 +254,14 @@ nodes-weigh s = records-weigh (record_of 64 Node) (record-weighs 64 Node) s
 
 -- 4. Stitches, flows and sections
 
-title-weighs : (k : Reading) → Weighs 0 k → (s : List ℕ) (r : HeadingRead) → r ≡ heading_of s → ends (title_trace r k s) ≡ well → cost (title_trace r k s) ≤ length s
+title-weighs : (k : Reading) → Weighs 0 k → (s : List ℕ) (r : Result Heading Refusal) → r ≡ heading_of s → ends (title_trace r k s) ≡ well → cost (title_trace r k s) ≤ length s
 unfolding title_trace ends
-title-weighs k g s (heading.At h) e z =
+title-weighs k g s (Ok h) e z =
     let laid = heading-laid s h e refl in
     let t = nodes (part h.nodes h.end s) in
     two-parts h.nodes h.end t (k (drop h.end s)) (length s) z
     (λ x y. omega (arith, laid, nodes-weigh (part h.nodes h.end s) x, g (drop h.end s) y, part_length h.nodes h.end s laid.within, length-drop h.end s))
-title-weighs k g s (heading.Refused x) e z = let y : ◌≡◌ {A = ℕ} 0 1 = cc in absurd (omega arith)
+title-weighs k g s (Err x) e z = let y : ◌≡◌ {A = ℕ} 0 1 = cc in absurd (omega arith)
 
 titled-weighs : (k : Reading) → Weighs 0 k → Weighs 0 (titled k)
 titled-weighs k g s z =

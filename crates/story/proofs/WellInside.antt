@@ -1,4 +1,5 @@
 -- Every record of nodes that end well is read well inside; and records stand five bytes apart at least. Assumes nothing.
+use Rattle.std.specs.Prelude.{Some}
 use mathlib.Core.Path.{◌≡◌, sym, ◌∙◌, ap}
 use mathlib.Core.List.Memᴰ
 use mathlib.Core.List.{List, Memᴰ}
@@ -9,7 +10,6 @@ use lib.ListN.{length}
 use Rattle.names.specs.Words.{Sorted}
 use Rattle.fields.specs.declared.Role.{Role}
 use Rattle.fields.specs.declared.Body.{Body}
-use Rattle.fields.specs.declared.Kinded.TheVariants.{Known}
 use Rattle.fields.specs.Kinds.{kind_of}
 use Rattle.records.specs.Trace.{Trace, done, refuse, emit, and_then, shift, Record, met, well, ends}
 use Rattle.records.specs.Grammar.{body_of, record_of, nodes}
@@ -22,7 +22,7 @@ use Rattle.story.proofs.Induction.{Each, each-then, each-shift, each-met, Kept, 
 pub record Bears (role : Role) (kind : ℕ) (payload : List ℕ) : Type 0 where
   pub left : ℕ
   pub body : Body
-  pub known : kind_of role kind ≡ Known body
+  pub known : kind_of role kind ≡ Some body
   pub inside : ends (body_of body (record_of left) payload) ≡ well
 
 -- each record of the trace is

@@ -1,4 +1,5 @@
 -- A readable file is its pieces from its first byte to its last, and its story has each record that the reading met, once. Assumes nothing.
+use Rattle.std.specs.Prelude.{Ok}
 use mathlib.Core.Path.{◌≡◌, refl, sym, ◌∙◌, ap}
 use mathlib.Core.List.{List, ◌++◌}
 use Prim.Native.Nat.{ℕ}
@@ -6,7 +7,6 @@ use native.Mathlib.Omega.{arith}
 use lib.ListN.{drop}
 use Rattle.records.specs.Trace.{well, ends}
 use Rattle.story.specs.declared.Sections.{Sections}
-use Rattle.story.specs.declared.Opened.TheVariants as opened
 use Rattle.story.specs.Flows.{flow, part, flow_in, flows_in}
 use Rattle.story.specs.File.{sections_read, read_of, story_in}
 use Rattle.story.specs.Whole.{IsFlow, Whole}
@@ -41,5 +41,5 @@ module _ (c : Sections) (s : List ℕ) (r : Readable c s) (good : ends (sections
   }
 
 -- A READABLE FILE is its pieces, and its story has all that reading met
-pub whole : (file : List ℕ) (c : Sections) → read_of file ≡ opened.At c → Whole c file
+pub whole : (file : List ℕ) (c : Sections) → read_of file ≡ Ok c → Whole c file
 whole file c told = readable-whole c file (readable file c refl told) (sections-well file c told)

@@ -1,4 +1,5 @@
 -- A readable file with a record in its root, in a flow and in a stitch: what is so of every readable file is so of it. Assumes nothing.
+use Rattle.std.specs.Prelude.{Ok}
 use mathlib.Core.Path.{◌≡◌, refl}
 use mathlib.Core.List.{List, [], ◌∷◌, map}
 use Prim.Native.Nat.{ℕ}
@@ -7,7 +8,6 @@ use Rattle.fields.specs.Kinds.{node_kind, expr_kind, kind_of}
 use Rattle.records.specs.Trace.{and_then, shift, met, ends}
 use Rattle.records.specs.Grammar.{front_at, ending, repeat_n, repeat, exact, piece_at, named_at, flagged_at, body_of, whole, record_of, nodes}
 use Rattle.story.specs.declared.Sections.{Sections}
-use Rattle.story.specs.declared.Opened.TheVariants as opened
 use Rattle.records.specs.Items.{Item, sort_of, item_as, item_of, items_ended, items_in}
 use Rattle.story.specs.Headings.{reach_at, names_reach, counted_reach, list_at, marks_at, params_at, name_then, heading_of}
 use Rattle.story.specs.Flows.{names, names_then, counted, titled, stitch, flow, flows, part, titled_at, titled_in, pieces_at, pieces_n, pieces_in, stitch_in, title_end, flow_in, flows_in}
@@ -46,11 +46,11 @@ sections = record { externals = 2; root = 4; flows = 14; end = 51 }
 
 -- read, whole, and with a record at each of these places: two in the root, one in the knot, one in the stitch
 record Example : Type 0 where
-  readable : read_of file ≡ opened.At sections
+  readable : read_of file ≡ Ok sections
   whole : Whole sections file
   places : map (λ (i : Item). i.place) (story_items (story_in sections file)) ≡ 4 ∷ 9 ∷ 29 ∷ 46 ∷ []
 
-told : read_of file ≡ opened.At sections
+told : read_of file ≡ Ok sections
 unfolding file names-bytes root-bytes flow-bytes stitch-bytes trailer-bytes read_of read_at opened_of marked start_at sections_read read_ended names flows nodes part repeat repeat_n front_at head_of name_of list_of flag_of named_at piece_at flagged_at kind_of node_kind expr_kind body_of exact ending whole record_of names_then counted titled stitch flow and_then shift ends
 told = refl
 

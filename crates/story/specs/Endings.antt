@@ -1,9 +1,9 @@
 -- Inner contract. How reading names ends, as the pass answers it.
+use Rattle.std.specs.Prelude.{Result, Ok, Err}
+use Rattle.fields.specs.declared.Refusal.{Refusal}
 use Rattle.records.specs.Trace.{Ending, well, refused}
-use Rattle.story.specs.declared.Ended.{Ended}
-use Rattle.story.specs.declared.Ended.TheVariants as ended
 
 -- an ending, as the pass answers it
-unfoldable pub ended_of : Ending → Ended
-ended_of well = ended.Well
-ended_of (refused r) = ended.Refused r
+unfoldable pub ended_of : Ending → Result Unit Refusal
+ended_of well = (Ok tt)
+ended_of (refused r) = Err r

@@ -1,12 +1,11 @@
 -- A story file: its trailer and sections, how reading it ends, and the story in it.
-use Rattle.std.specs.Prelude.{ℕ, ◌+◌, ◌-◌, ◌≤◌, ◌≡◌, List, Bool, not, ◌&&◌, ◌||◌, length, get_or, ltb, eqb}
+use Rattle.fields.specs.declared.Refusal.{Refusal}
+use Rattle.std.specs.Prelude.{ℕ, ◌+◌, ◌-◌, ◌≤◌, ◌≡◌, List, Bool, not, ◌&&◌, ◌||◌, length, get_or, ltb, eqb, Result, Ok, Err}
 use Rattle.fields.specs.declared.Refusal.TheVariants.{Length, Mark, Starts}
 use Rattle.fields.specs.Bytes.{pick, le32_at}
 use Rattle.records.specs.Trace.{Trace, and_then, shift, Ending, well, refused, ends}
 use Rattle.records.specs.Grammar.{nodes}
 use Rattle.story.specs.declared.Sections.{Sections}
-use Rattle.story.specs.declared.Opened.{Opened}
-use Rattle.story.specs.declared.Opened.TheVariants as opened
 use Rattle.story.specs.Story.{Story}
 use Rattle.records.specs.Items.{items_in}
 use Rattle.story.specs.Flows.{names, flows, names_in, flows_in, part}
@@ -48,11 +47,11 @@ pub record InOrder (c : Sections) (s : List ℕ) : Type 0 where
   pub short : length s ≤ 1048576
 
 -- refusals 1, 2 and 3, in this order
-unfoldable pub opened_of : List ℕ → Opened
+unfoldable pub opened_of : List ℕ → Result Sections Refusal
 opened_of s =
-    pick (bad_length s) (opened.Refused Length)
-    (pick (not (marked s)) (opened.Refused Mark)
-    (pick (not (ordered s)) (opened.Refused Starts) (opened.At (sections_of s))))
+    pick (bad_length s) (Err Length)
+    (pick (not (marked s)) (Err Mark)
+    (pick (not (ordered s)) (Err Starts) (Ok (sections_of s))))
 
 -- globals, externals, root and flows, front to back
 unfoldable pub sections_read : Sections → List ℕ → Trace
@@ -62,17 +61,17 @@ sections_read c s =
     (and_then (shift c.root (nodes (part c.root c.flows s))) (shift c.flows (flows (part c.flows c.end s)))))
 
 -- the sections, unless reading was refused
-unfoldable pub read_ended : Ending → Opened → Opened
+unfoldable pub read_ended : Ending → Result Sections Refusal → Result Sections Refusal
 read_ended well o = o
-read_ended (refused r) o = opened.Refused r
+read_ended (refused r) o = Err r
 
 -- reading the sections, unless the trailer was refused
-unfoldable pub read_at : Opened → List ℕ → Opened
-read_at (opened.At c) s = read_ended (ends (sections_read c s)) (opened.At c)
-read_at (opened.Refused r) s = opened.Refused r
+unfoldable pub read_at : Result Sections Refusal → List ℕ → Result Sections Refusal
+read_at (Ok c) s = read_ended (ends (sections_read c s)) (Ok c)
+read_at (Err r) s = Err r
 
 -- READING: the sections of a file, or the refusal
-unfoldable pub read_of : List ℕ → Opened
+unfoldable pub read_of : List ℕ → Result Sections Refusal
 read_of s = read_at (opened_of s) s
 
 -- THE STORY in a file with these sections

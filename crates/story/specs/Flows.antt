@@ -1,12 +1,12 @@
 -- The grammar of flows and stitches, as 01 has it; and flows and stitches as the rules see them.
-use Rattle.std.specs.Prelude.{ℕ, zero, suc, ◌+◌, ◌-◌, List, [], ◌∷◌, length, get_or, take, drop, eqb}
+use Rattle.fields.specs.declared.Refusal.{Refusal}
+use Rattle.story.specs.declared.Heading.{Heading}
+use Rattle.std.specs.Prelude.{ℕ, zero, suc, ◌+◌, ◌-◌, List, [], ◌∷◌, length, get_or, take, drop, eqb, Result, Ok, Err}
 use Rattle.fields.specs.declared.Refusal.TheVariants.{Short}
 use Rattle.fields.specs.declared.Role.TheVariants.{Node}
 use Rattle.fields.specs.Bytes.{Span, list_of}
 use Rattle.records.specs.Trace.{refuse, shift}
 use Rattle.records.specs.Grammar.{Reading, repeat, named, flagged, piece, listed, ending, record_of}
-use Rattle.story.specs.declared.HeadingRead.{HeadingRead}
-use Rattle.story.specs.declared.HeadingRead.TheVariants as heading
 use Rattle.story.specs.Story.{Name, Stitch, Flow}
 use Rattle.records.specs.Items.{name_in, items_in}
 use Rattle.story.specs.Headings.{heading_of}
@@ -68,14 +68,14 @@ unfoldable pub part : ℕ → ℕ → List ℕ → List ℕ
 part a b s = take (b - a) (drop a s)
 
 -- name, parameters, divert parameters and nodes, from the name's count byte on, which stands at the place
-unfoldable pub titled_at : HeadingRead → ℕ → List ℕ → Stitch
-titled_at (heading.At h) at s = record {
+unfoldable pub titled_at : Result Heading Refusal → ℕ → List ℕ → Stitch
+titled_at (Ok h) at s = record {
   name = record { at = at; bytes = name_in s };
   params = counted_in (at + h.params) (drop h.params s);
   marks = counted_in (at + h.marks) (drop h.marks s);
   body = items_in (at + h.nodes) (part h.nodes h.end s);
 }
-titled_at (heading.Refused r) at s = record { name = record { at = at; bytes = name_in s }; params = []; marks = []; body = [] }
+titled_at (Err r) at s = record { name = record { at = at; bytes = name_in s }; params = []; marks = []; body = [] }
 
 -- the same, by the heading that the bytes have
 unfoldable pub titled_in : ℕ → List ℕ → Stitch
@@ -100,9 +100,9 @@ unfoldable pub stitch_in : ℕ → List ℕ → Stitch
 stitch_in at s = titled_in (at + 4) s
 
 -- the place after the nodes of a flow or a stitch, from its name's count byte on: there the stitches of a flow begin
-unfoldable pub title_end : HeadingRead → ℕ
-title_end (heading.At h) = h.end
-title_end (heading.Refused r) = 0
+unfoldable pub title_end : Result Heading Refusal → ℕ
+title_end (Ok h) = h.end
+title_end (Err r) = 0
 
 -- a flow at the place, from its bytes after the length
 unfoldable pub flow_in : ℕ → List ℕ → Flow

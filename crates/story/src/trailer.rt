@@ -2,7 +2,7 @@
 ghost use Rattle.std.specs.Prelude.{◌≡◌, ◌≤◌, length};
 ghost use Rattle.story.specs.File.{marked, opened_of, start_at};
 
-use crate::{Opened, Sections};
+use crate::Sections;
 use fields::{Refusal, word};
 
 // The section start that stands so many bytes into the trailer.
@@ -33,18 +33,18 @@ fn is_marked(file: &[u8]) -> bool
 }
 
 // The sections by the trailer: refusals 1, 2 and 3.
-pub fn read_trailer(file: &[u8]) -> Opened
+pub fn read_trailer(file: &[u8]) -> Result<Sections, Refusal>
     ensures { result ≡ opened_of file.now }
 {
     let n = file.len();
     if n < 20 {
-        return Opened::Refused(Refusal::Length);
+        return Err(Refusal::Length);
     }
     if 1048576 < n {
-        return Opened::Refused(Refusal::Length);
+        return Err(Refusal::Length);
     }
     if !is_marked(file) {
-        return Opened::Refused(Refusal::Mark);
+        return Err(Refusal::Mark);
     }
     let end = n - 20;
     let globals = start_at(file, 0);
@@ -52,18 +52,18 @@ pub fn read_trailer(file: &[u8]) -> Opened
     let root = start_at(file, 8);
     let flows = start_at(file, 12);
     if globals != 0 {
-        return Opened::Refused(Refusal::Starts);
+        return Err(Refusal::Starts);
     }
     if root < externals {
-        return Opened::Refused(Refusal::Starts);
+        return Err(Refusal::Starts);
     }
     if flows < root {
-        return Opened::Refused(Refusal::Starts);
+        return Err(Refusal::Starts);
     }
     if end < flows {
-        return Opened::Refused(Refusal::Starts);
+        return Err(Refusal::Starts);
     }
-    Opened::At(Sections {
+    Ok(Sections {
         externals,
         root,
         flows,

@@ -10,3 +10,5 @@ pub mod Rows
 pub mod Searched
 pub mod Spelled
 pub mod Stored
+pub mod Parts
+pub mod Visiting

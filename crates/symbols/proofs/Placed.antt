@@ -3,19 +3,15 @@ use mathlib.Core.Path.{◌≡◌, refl, ◌∙◌, ap}
 use mathlib.Core.Bool.{Bool, true, false}
 use mathlib.Core.List.{List, [], ◌∷◌, ◌++◌, map}
 use mathlib.Core.Option.{Option, none, some}
-use Prim.Native.Nat.{ℕ}
 use lib.ListN.{length, length-map}
 use Rattle.names.specs.Words.{Bytes, only, each}
 use Rattle.records.specs.Items.{Item}
 use Rattle.story.specs.Story.{Name, Stitch, Flow, Story, own_name}
-use Rattle.story.specs.Plain.{without_plain, UnlabelledStory}
 use Rattle.symbols.specs.declared.Places.{Places}
 use Rattle.symbols.specs.Index.{Entry, alone, labelled, prefix, stitch_entries, flow_entries, entries}
-use Rattle.symbols.specs.Numbers.{absent, number_of, places_of, St, store, store_all}
+use Rattle.symbols.specs.Numbers.{absent, number_of, places_of}
 use Rattle.symbols.specs.Placed.{placed, names_placed, labels_placed, prefix_number, stitch_placed}
 use Rattle.symbols.proofs.Named.{alone_at}
-use Rattle.symbols.proofs.Stored.{store-append}
-use Rattle.symbols.proofs.Plain.{entries-plain}
 
 -- 1. Lists
 
@@ -104,35 +100,3 @@ unfolding entries
 story-placed s =
     placed-append (map alone s.globals ++ labelled none none s.root) (each flow_entries s.flows)
     ∙ rw (placed-append (map alone s.globals) (labelled none none s.root), names-placed s.globals, labels-placed none none s.root)
-
--- 3. Parts stored one after the other
-
-module _ (s : St) {s₁ s₂ s₃ : St} where
-  pub stitch-stored : (flow : ℕ) (t : Stitch) → s₁ ≡ store s (record { flow = flow; stitch = absent; own = t.name.at })
-      → s₂ ≡ store_all s₁ (names_placed t.params) → s₃ ≡ store_all s₂ (labels_placed flow t.name.at t.body) → s₃ ≡ store_all s (stitch_placed flow t)
-  unfolding stitch_placed store_all
-  stitch-stored flow t a b c =
-      let first : List Places = record { flow = flow; stitch = absent; own = t.name.at } ∷ names_placed t.params in
-      c ∙ rw (store-append first (labels_placed flow t.name.at t.body) s, b, a)
-
-  pub flow-stored : {s₄ : St} {prefix : ℕ} (f : Flow) → s₁ ≡ store s (alone_at f.name.at) → s₂ ≡ store_all s₁ (names_placed f.params)
-      → prefix ≡ prefix_number f.name.bytes f.name.at → s₃ ≡ store_all s₂ (labels_placed prefix absent f.body)
-      → s₄ ≡ store_all s₃ (each (stitch_placed f.name.at) f.stitches) → s₄ ≡ store_all s (placed (flow_entries f))
-  unfolding store_all
-  flow-stored f a b p c d =
-      let first : List Places = alone_at f.name.at ∷ names_placed f.params in
-      let own = labels_placed (prefix_number f.name.bytes f.name.at) absent f.body in
-      let rest = each (stitch_placed f.name.at) f.stitches in
-      d ∙ rw (flow-placed f, store-append (first ++ own) rest s, store-append first own s, c, p, b, a)
-
-  pub story-stored : (t : Story) → s₁ ≡ store_all s (names_placed t.globals) → s₂ ≡ store_all s₁ (labels_placed absent absent t.root)
-      → s₃ ≡ store_all s₂ (placed (each flow_entries t.flows)) → s₃ ≡ store_all s (placed (entries t))
-  story-stored t a b c =
-      let first = names_placed t.globals in
-      let own = labels_placed absent absent t.root in
-      let rest = placed (each flow_entries t.flows) in
-      c ∙ rw (story-placed t, store-append (first ++ own) rest s, store-append first own s, b, a)
-
--- the plain items of a story change nothing, where they bear no label
-pub plain-stored : (s : St) {s₁ : St} (t : Story) → UnlabelledStory t → s₁ ≡ store_all s (placed (entries (without_plain t))) → s₁ ≡ store_all s (placed (entries t))
-plain-stored s t u e = e ∙ ap (λ (es : List Entry). store_all s (placed es)) (entries-plain t u)

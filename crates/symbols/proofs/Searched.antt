@@ -1,4 +1,5 @@
 -- Searching the index's entries one by one: what is left of it, and what was found. Assumes nothing.
+use Rattle.std.specs.Prelude.{is_some}
 use mathlib.Core.Path.{◌≡◌, refl, sym, ◌∙◌, ap}
 use mathlib.Core.Bool.{Bool, true, false, ◌||◌}
 use mathlib.Core.List.{List, [], ◌∷◌, map}
@@ -6,19 +7,18 @@ use Prim.Native.Nat.{ℕ, zero, suc, ◌+◌, ◌-◌, ◌≤◌, ◌<◌}
 use native.Mathlib.Omega.{arith}
 use native.Mathlib.Nat.{sub-zero}
 use native.Mathlib.Numerals.{sub-one}
-use lib.ListN.{length, get_or, take, drop}
-use lib.Seq.{take-nil}
+use native.Mathlib.Decide.{dec_le}
+use Rattle.std.specs.Prelude.{min, ◌*◌, ◌/◌, Option, Some, None}
+use lib.ListN.{length, get_or, take, drop, length-drop}
+use lib.Seq.{take-nil, drop-drop, get_or-drop}
 use Rattle.fields.specs.Bytes.{pick}
-use Rattle.fields.proofs.Laws.{to_end}
 use Rattle.names.specs.Words.{Bytes, same, any, ends}
 use Rattle.names.proofs.Words.{same-eq, ends-short}
 use Rattle.symbols.specs.declared.Places.{Places}
 use Rattle.symbols.specs.declared.Fit.{Fit}
 use Rattle.symbols.specs.declared.Fit.TheVariants.{Exact, Ending, Differs}
-use Rattle.symbols.specs.declared.Found.{Found}
-use Rattle.symbols.specs.declared.Found.TheVariants.{At, Nowhere}
 use Rattle.symbols.specs.Fits.{fit_of, answers}
-use Rattle.symbols.specs.Rows.{rows, spelling_in, spellings_in, first_of, wanted, sought, is_found}
+use Rattle.symbols.specs.Rows.{rows, row_at, spelling_in, spellings_in, first_of, wanted, sought}
 
 -- 1. The first entry of some numbers, and the others
 
@@ -57,38 +57,48 @@ module _ (file s : List ℕ) (n : ℕ) where
   unfolding spellings_in
   spell_next m h = rw (rows_next s h) (ap (map (spelling_in file)) (take_next (row_of s) (rows (drop 3 s)) n m))
 
+-- the first three numbers from entry number k on
+row-drop : (index : List ℕ) (k : ℕ) → row_of (drop (3 * k) index) ≡ row_at index k
+row-drop index k =
+    let z : 3 * k + 0 ≡ 3 * k = omega arith in
+    rw (get_or-drop (3 * k) index 0 0, get_or-drop (3 * k) index 1 0, get_or-drop (3 * k) index 2 0, z)
+
+drop-row : (index : List ℕ) (k : ℕ) → drop 3 (drop (3 * k) index) ≡ drop (3 * (k + 1)) index
+drop-row index k = let e : 3 * k + 3 ≡ 3 * (k + 1) = omega arith in drop-drop 3 (3 * k) index ∙ rw e
+
 -- 2. What is left of the search
 
--- the entries that are left decide, those before number k having been passed
-pub record Left (file index rest target : List ℕ) (count k : ℕ) (exact ending : Bool) : Type 0 where
+-- the entries from number k on decide
+pub record Left (file index target : List ℕ) (count k : ℕ) (exact ending : Bool) : Type 0 where
   pub within : k ≤ count
-  pub left : first_of (sought exact ending target) 0 (spellings_in file count index) ≡ first_of (sought exact ending target) k (spellings_in file (count - k) rest)
+  pub left : first_of (sought exact ending target) 0 (spellings_in file count index) ≡ first_of (sought exact ending target) k (spellings_in file (count - k) (drop (3 * k) index))
 
-pub left-start : {file index target : List ℕ} {count : ℕ} {exact ending : Bool} → Left file index index target count 0 exact ending
+pub left-start : {file index target : List ℕ} {count : ℕ} {exact ending : Bool} → Left file index target count 0 exact ending
 left-start {count = count} = record { within = omega arith; left = rw (sub-zero count) }
 
-module _ {file index rest target : List ℕ} {count k : ℕ} {exact ending : Bool} (l : Left file index rest target count k exact ending) where
-  pub left_end : count ≤ k → Nowhere ≡ first_of (sought exact ending target) 0 (spellings_in file count index)
+module _ {file index target : List ℕ} {count k : ℕ} {exact ending : Bool} (l : Left file index target count k exact ending) where
+  -- all of them were passed
+  pub left_end : min count (length index / 3) ≤ k → None ≡ first_of (sought exact ending target) 0 (spellings_in file count index)
   unfolding first_of
-  left_end h = sym (l.left ∙ rw (spell-end file rest (count - k) (omega arith)))
+  left_end h = by_count (dec_le count k)
+    where
+      by_count : Dec (count ≤ k) → None ≡ first_of (sought exact ending target) 0 (spellings_in file count index)
+      by_count (yes p) = sym (l.left ∙ rw (spell-end file (drop (3 * k) index) (count - k) (omega arith)))
+      by_count (no p) = sym (l.left ∙ rw (spell-short file (drop (3 * k) index) (count - k) (simp length-drop (omega arith))))
 
-  pub left-short : length rest < 3 → Nowhere ≡ first_of (sought exact ending target) 0 (spellings_in file count index)
-  unfolding first_of
-  left-short h = sym (l.left ∙ rw (spell-short file rest (count - k) h))
-
-  module _ (m : k < count) (h : 3 ≤ length rest) {fit : Fit} {r : Bool} (e : fit ≡ fit_of target (spelling_in file (row_of rest))) (w : r ≡ wanted exact ending fit) where
+  module _ (m : k < min count (length index / 3)) {p : Places} {fit : Fit} {r : Bool} (q : p ≡ row_at index k) (e : fit ≡ fit_of target (spelling_in file p)) (w : r ≡ wanted exact ending fit) where
     next : first_of (sought exact ending target) 0 (spellings_in file count index)
-        ≡ pick r (At k) (first_of (sought exact ending target) (k + 1) (spellings_in file (count - k - 1) (drop 3 rest)))
+        ≡ pick r (Some k) (first_of (sought exact ending target) (k + 1) (spellings_in file (count - k - 1) (drop (3 * (k + 1)) index)))
     unfolding first_of sought
-    next = l.left ∙ rw (spell_next file rest (count - k) (omega arith) h, w, e)
+    next = l.left ∙ rw (spell_next file (drop (3 * k) index) (count - k) (omega arith) (simp length-drop (omega arith)), row-drop index k, drop-row index k, w, e, q)
 
-    pub left-found : r ≡ true → At k ≡ first_of (sought exact ending target) 0 (spellings_in file count index)
+    pub left-found : r ≡ true → Some k ≡ first_of (sought exact ending target) 0 (spellings_in file count index)
     left-found t = sym (next ∙ rw t)
 
-    pub left-next : r ≡ false → Left file index (take (length rest - 3) (drop 3 rest)) target count (k + 1) exact ending
+    pub left-next : r ≡ false → Left file index target count (k + 1) exact ending
     left-next t =
         let n : count - (k + 1) ≡ count - k - 1 = omega arith in
-        record { within = omega arith; left = next ∙ rw (t, to_end 3 rest, n) }
+        record { within = omega arith; left = next ∙ rw (t, n) }
 
 -- 3. What is looked for, in the words of the rules
 
@@ -131,12 +141,12 @@ first-same f g e k [] = refl
 first-same f g e k (x ∷ xs) = rw (e x, first-same f g e (k + 1) xs)
 
 -- something is found where some spelling passes
-pub first_any : (f g : Bytes → Bool) → ((s : Bytes) → f s ≡ g s) → (k : ℕ) (l : List Bytes) → is_found (first_of f k l) ≡ any g l
+pub first_any : (f g : Bytes → Bool) → ((s : Bytes) → f s ≡ g s) → (k : ℕ) (l : List Bytes) → is_some (first_of f k l) ≡ any g l
 unfolding first_of
 first_any f g e k [] = refl
 first_any f g e k (x ∷ xs) = rw (e x) (by-test (g x) (first_any f g e (k + 1) xs))
   where
-    by-test : (i : Bool) → is_found (first_of f (k + 1) xs) ≡ any g xs → is_found (pick i (At k) (first_of f (k + 1) xs)) ≡ i || any g xs
+    by-test : (i : Bool) → is_some (first_of f (k + 1) xs) ≡ any g xs → is_some (pick i (Some k) (first_of f (k + 1) xs)) ≡ i || any g xs
     by-test true h = refl
     by-test false h = h
 
@@ -165,12 +175,12 @@ module _ (f : Bytes → Bool) where
       earlier zero i = e
       earlier (suc j) i = h.first j (omega (arith, one_later k m h.after))
 
-  pub first-at : (k : ℕ) (l : List Bytes) (m : ℕ) → first_of f k l ≡ At m → FirstAt k l m
+  pub first-at : (k : ℕ) (l : List Bytes) (m : ℕ) → first_of f k l ≡ Some m → FirstAt k l m
   unfolding first_of
   first-at k [] m e = let z : ◌≡◌ {A = ℕ} 0 1 = cc in absurd (omega arith)
   first-at k (x ∷ xs) m e = by-test (first-at (k + 1) xs m) (f x) refl e
     where
-      by-test : (first_of f (k + 1) xs ≡ At m → FirstAt (k + 1) xs m) → (b : Bool) → f x ≡ b → pick b (At k) (first_of f (k + 1) xs) ≡ At m → FirstAt k (x ∷ xs) m
+      by-test : (first_of f (k + 1) xs ≡ Some m → FirstAt (k + 1) xs m) → (b : Bool) → f x ≡ b → pick b (Some k) (first_of f (k + 1) xs) ≡ Some m → FirstAt k (x ∷ xs) m
       by-test later true p q =
           let z : k ≡ m = cc in
           let n : m - k ≡ 0 = omega arith in
@@ -178,12 +188,12 @@ module _ (f : Bytes → Bool) where
       by-test later false p q = first-later k x xs m p (later q)
 
   -- some spelling passes, or none
-  pub first-none : (k : ℕ) (l : List Bytes) → first_of f k l ≡ Nowhere → any f l ≡ false
-  first-none k l e = sym (first_any f f (λ s. refl) k l) ∙ ap is_found e
+  pub first-none : (k : ℕ) (l : List Bytes) → first_of f k l ≡ None → any f l ≡ false
+  first-none k l e = sym (first_any f f (λ s. refl) k l) ∙ ap is_some e
 
-  pub none_first : (k : ℕ) (l : List Bytes) → any f l ≡ false → first_of f k l ≡ Nowhere
+  pub none_first : (k : ℕ) (l : List Bytes) → any f l ≡ false → first_of f k l ≡ None
   none_first k l e = by-found (first_of f k l) (first_any f f (λ s. refl) k l ∙ e)
     where
-      by-found : (r : Found) → is_found r ≡ false → r ≡ Nowhere
-      by-found (At m) q = let z : ◌≡◌ {A = ℕ} 0 1 = cc in absurd (omega arith)
-      by-found Nowhere q = refl
+      by-found : (r : Option ℕ) → is_some r ≡ false → r ≡ None
+      by-found (Some m) q = let z : ◌≡◌ {A = ℕ} 0 1 = cc in absurd (omega arith)
+      by-found None q = refl

@@ -1,5 +1,5 @@
 -- Entries stored one after the other: what the index holds then. Assumes nothing.
-use mathlib.Core.Path.{◌≡◌, refl, sym, ◌∙◌}
+use mathlib.Core.Path.{◌≡◌}
 use mathlib.Core.List.{List, [], ◌∷◌, ◌++◌, append_assoc, append-nil}
 use Prim.Native.Nat.{ℕ, suc, ◌+◌, ◌*◌, ◌/◌, ◌≤◌, ◌<◌}
 use native.Mathlib.Nat.{add-zero, zero-add}
@@ -9,7 +9,7 @@ use lib.Seq.{take_at, drop-append-add, drop-drop, sets-eq}
 use borrow.Author.Tests.{lt-ltb, le-ltb}
 use Rattle.records.specs.Buffers.{overlay}
 use Rattle.symbols.specs.declared.Places.{Places}
-use Rattle.symbols.specs.Numbers.{numbers, St, st, noted, store, store_all}
+use Rattle.symbols.specs.Numbers.{numbers, st, noted, store, store_all}
 
 -- 1. One entry
 
@@ -23,35 +23,6 @@ unfolding store
 store-room p index n h = rw (lt-ltb n (length index / 3) h)
 
 -- 2. Many
-
-pub store-append : (ps qs : List Places) (s : St) → store_all s (ps ++ qs) ≡ store_all (store_all s ps) qs
-unfolding store_all
-store-append [] qs s = refl
-store-append (p ∷ ps) qs s = store-append ps qs (store s p)
-
--- a loop that stores: what was to be stored from the start is what is left to be stored now
-pub record Storing (index₀ : List ℕ) (n : ℕ) (all : List Places) (index : List ℕ) (count : ℕ) (rest : List Places) : Type 0 where
-  pub stored : store_all (st index₀ n) all ≡ store_all (st index count) rest
-
-pub storing-start : {index : List ℕ} {n : ℕ} {all : List Places} → Storing index n all index n all
-storing-start = record { stored = refl }
-
-module _ {index₀ : List ℕ} {n : ℕ} {all : List Places} {index : List ℕ} {count : ℕ} {rest : List Places} (s : Storing index₀ n all index count rest) where
-  -- nothing is left
-  pub storing-end : rest ≡ [] → st index count ≡ store_all (st index₀ n) all
-  unfolding store_all
-  storing-end e = sym (s.stored ∙ rw e)
-
-  -- one entry
-  pub storing-one : {p : Places} {more : List Places} {index' : List ℕ} {count' : ℕ} → rest ≡ p ∷ more
-      → st index' count' ≡ store (st index count) p → Storing index₀ n all index' count' more
-  unfolding store_all
-  storing-one e f = record { stored = s.stored ∙ rw (e, f) }
-
-  -- several
-  pub storing-many : (ps : List Places) {more : List Places} {index' : List ℕ} {count' : ℕ} → rest ≡ ps ++ more
-      → st index' count' ≡ store_all (st index count) ps → Storing index₀ n all index' count' more
-  storing-many ps {more} e f = record { stored = s.stored ∙ rw (e, store-append ps more (st index count), f) }
 
 -- numbers from a place on, and the rest as it was
 abbrev pub laid : ℕ → List ℕ → List ℕ → List ℕ

@@ -6,3 +6,5 @@ pub mod Fits
 pub mod Rows
 pub mod Placed
 pub mod Stands
+pub mod Visits
+pub mod Storing

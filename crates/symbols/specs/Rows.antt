@@ -1,13 +1,11 @@
 -- The index read back: its entries, three numbers each, and their spellings by the names in the file. Assumes nothing.
-use Rattle.std.specs.Prelude.{Bool, true, false, List, [], ◌∷◌, ◌++◌, map, ℕ, ◌+◌, take, eqb}
+use Rattle.std.specs.Prelude.{Bool, true, false, List, [], ◌∷◌, ◌++◌, map, ℕ, ◌+◌, ◌*◌, take, get_or, eqb, Option, Some, None}
 use Rattle.fields.specs.Bytes.{pick}
 use Rattle.names.specs.Words.{Bytes}
 use Rattle.names.specs.Counted.{name_at}
 use Rattle.symbols.specs.declared.Places.{Places}
 use Rattle.symbols.specs.declared.Fit.{Fit}
 use Rattle.symbols.specs.declared.Fit.TheVariants.{Exact, Ending, Differs}
-use Rattle.symbols.specs.declared.Found.{Found}
-use Rattle.symbols.specs.declared.Found.TheVariants.{At, Nowhere}
 use Rattle.symbols.specs.Numbers.{absent}
 use Rattle.symbols.specs.Fits.{fit_of}
 
@@ -17,6 +15,10 @@ rows [] = []
 rows (a ∷ []) = []
 rows (a ∷ b ∷ []) = []
 rows (a ∷ b ∷ c ∷ rest) = record { flow = a; stitch = b; own = c } ∷ rows rest
+
+-- entry number k of the numbers
+abbrev pub row_at : List ℕ → ℕ → Places
+row_at index k = record { flow = get_or index (3 * k) 0; stitch = get_or index (3 * k + 1) 0; own = get_or index (3 * k + 2) 0 }
 
 -- the name at the place, if it is one, and "." before what follows
 abbrev pub dotted_in : List ℕ → ℕ → Bytes → Bytes
@@ -31,9 +33,9 @@ unfoldable pub spellings_in : List ℕ → ℕ → List ℕ → List Bytes
 spellings_in file count index = map (spelling_in file) (take count (rows index))
 
 -- the number of the first that passes, from k on
-unfoldable pub first_of : (Bytes → Bool) → ℕ → List Bytes → Found
-first_of f k [] = Nowhere
-first_of f k (x ∷ xs) = pick (f x) (At k) (first_of f (k + 1) xs)
+unfoldable pub first_of : (Bytes → Bool) → ℕ → List Bytes → Option ℕ
+first_of f k [] = None
+first_of f k (x ∷ xs) = pick (f x) (Some k) (first_of f (k + 1) xs)
 
 -- a fit that is looked for: an exact one, one by its ending, or either
 abbrev pub wanted : Bool → Bool → Fit → Bool
@@ -44,8 +46,3 @@ wanted exact ending Differs = false
 -- a spelling that the target fits so
 unfoldable pub sought : Bool → Bool → Bytes → Bytes → Bool
 sought exact ending target spelling = wanted exact ending (fit_of target spelling)
-
--- some number was found
-abbrev pub is_found : Found → Bool
-is_found (At k) = true
-is_found Nowhere = false

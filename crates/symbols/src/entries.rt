@@ -1,5 +1,5 @@
-// The entries of a story, stored in the index.
-ghost use Rattle.std.specs.Prelude.{◌≡◌, List, [], ◌∷◌, map, ℕ, ◌≤◌, ◌<◌, length, drop};
+// The entries of a story, visited one after the other, and stored in the index.
+ghost use Rattle.std.specs.Prelude.{◌≡◌, List, [], ◌∷◌, map, ℕ, ◌≤◌, ◌<◌, length, drop, refl};
 ghost use Rattle.names.specs.Words.{each};
 ghost use Rattle.names.specs.Counted.{name_at};
 ghost use Rattle.records.specs.Trace.{well, ends};
@@ -8,15 +8,18 @@ ghost use Rattle.story.specs.Flows.{names_n, counted_in, part, flows, flows_in, 
 ghost use Rattle.story.specs.File.{story_in};
 ghost use Rattle.records.specs.Numbers.{item_in};
 ghost use Rattle.items.specs.Bodies.{Range, items_at, Rising, kept_stitch, kept_stitches, kept_flow, Kept, StitchesKept, FlowsKept};
+ghost use Rattle.std.proofs.Common.{◌∙◌};
+ghost use Rattle.symbols.specs.Storing.{store-none, store-then};
 ghost use Rattle.symbols.specs.Index.{flow_entries, entries};
 ghost use Rattle.symbols.specs.Numbers.{st, store, store_all};
 ghost use Rattle.symbols.specs.Placed.{placed, names_placed, labels_placed, prefix_number, stitch_placed};
 
+use crate::visits::Visit;
 use crate::{ABSENT, Places};
 use items::items::{is_labelled, named_at};
 use items::runs::{body_items, items_from};
 use names::name_at;
-use searches::views::{FlowView, FlowViewRead, StitchView, StitchViewRead, flow_view, stitch_view};
+use searches::views::{FlowView, StitchView, flow_view, stitch_view};
 use story::Sections;
 
 // Stores an entry after the n that the index has, where there is room; how many it has now.
@@ -33,210 +36,191 @@ pub fn put_entry(index: &mut [u32], n: usize, p: Places) -> usize
     n + 1
 }
 
-// Stores at most so many names, from the place on and before the end, each alone.
-fn put_names(
-    file: &[u8],
-    many: usize,
-    from: usize,
-    end: usize,
-    index: &mut [u32],
-    n: usize,
-) -> usize
-    requires { (end ≤ length file.now) × (length file.now ≤ 1048576) }
-    ensures { st index.new result ≡ store_all (st index.old n) (names_placed (names_n many from (part from end file.now))) }
-{
-    let mut left = many;
-    let mut at = from;
-    let mut count = n;
-    while 0 < left {
-        if end <= at {
-            return count;
-        }
-        count = put_entry(
-            index,
-            count,
-            Places {
-                flow: ABSENT,
-                stitch: ABSENT,
-                own: at as u32,
-            },
-        );
-        at = at + (1 + file[at] as usize);
-        left = left - 1;
+// The index as it is filled: its numbers, and how many entries it has.
+#[derive(Drop)]
+struct Store<'a> {
+    index: &'a mut [u32],
+    count: usize,
+}
+
+impl<'a> Visit for Store<'a> {
+    ghost ready = { λ v ps. Unit {0} };
+
+    ghost visited = { λ v ps w. (st w.index.now w.count ≡ store_all (st v.index.now v.count) ps) × (w.index.ghost_name ≡ v.index.ghost_name) };
+
+    fn visit(&mut self, p: Places) {
+        self.count = put_entry(self.index, self.count, p);
     }
-    count
+
+    ghost laws = { record {
+      none = λ v ps r. (store-none (st v.index.now v.count), refl);
+      append = λ u v w ps qs a b. (store-then (st u.index.now u.count) (st v.index.now v.count) (st w.index.now w.count) ps qs a.0 b.0, b.1 ∙ a.1);
+      front = λ v ps qs r. tt;
+      rest = λ u v ps qs r d. tt;
+    } };
 }
 
-// Stores parameters: the names that the count byte at the place counts, each alone.
-fn put_params(file: &[u8], params: usize, index: &mut [u32], n: usize) -> usize
-    requires { (params < length file.now) × (length file.now ≤ 1048576) }
-    ensures { st index.new result ≡ store_all (st index.old n) (names_placed (counted_in params (drop params file.now))) }
+// Visits at most so many names, from the place on and before the end, each alone.
+fn put_names<V: Visit>(file: &[u8], many: usize, from: usize, end: usize, visitor: &mut V)
+    requires end_in_bounds { (end ≤ length file.now) × (length file.now ≤ 1048576) }
+    requires ready { V.ready visitor.old (names_placed (names_n many from (part from end file.now))) }
+    ensures { V.visited visitor.old (names_placed (names_n many from (part from end file.now))) visitor.new }
 {
-    put_names(
-        file,
-        file[params] as usize,
-        params + 1,
-        file.len(),
-        index,
-        n,
-    )
+    let mut at = from;
+    for _passed in 0..many {
+        if end <= at {
+            return;
+        }
+        let p = Places {
+            flow: ABSENT,
+            stitch: ABSENT,
+            own: at as u32,
+        };
+        visitor.visit(p);
+        at += 1 + file[at] as usize;
+    }
 }
 
-// Stores the item, if its name is a label.
-fn put_label(item: u32, flow: u32, stitch: u32, index: &mut [u32], n: usize) -> usize
-    ensures { (file : List ℕ) → st index.new result ≡ store_all (st index.old n) (labels_placed flow stitch (item_in file item ∷ [])) }
+// Visits parameters: the names that the count byte at the place counts, each alone.
+fn put_params<V: Visit>(file: &[u8], params: usize, visitor: &mut V)
+    requires params_in_bounds { (params < length file.now) × (length file.now ≤ 1048576) }
+    requires ready { V.ready visitor.old (names_placed (counted_in params (drop params file.now))) }
+    ensures { V.visited visitor.old (names_placed (counted_in params (drop params file.now))) visitor.new }
+{
+    let many = file[params] as usize;
+    put_names(file, many, params + 1, file.len(), visitor)
+}
+
+// Visits the item, if its name is a label.
+fn put_label<V: Visit>(file: &[u8], item: u32, flow: u32, stitch: u32, visitor: &mut V)
+    requires { V.ready visitor.old (labels_placed flow stitch (item_in file.now item ∷ [])) }
+    ensures { V.visited visitor.old (labels_placed flow stitch (item_in file.now item ∷ [])) visitor.new }
 {
     if is_labelled(item) {
         let own = named_at(item);
-        return put_entry(
-            index,
-            n,
-            Places {
-                flow,
-                stitch,
-                own: own as u32,
-            },
-        );
+        let p = Places {
+            flow,
+            stitch,
+            own: own as u32,
+        };
+        visitor.visit(p);
     }
-    n
 }
 
-// Stores the labels of a body, with its flow's and its stitch's name.
-fn collect_labels_from_nodes(
+// Visits the labels of a body, with its flow's and its stitch's name.
+fn collect_labels_from_nodes<V: Visit>(
+    file: &[u8],
     items: &[u32],
     flow: u32,
     stitch: u32,
-    index: &mut [u32],
-    n: usize,
-) -> usize
-    ensures { (file : List ℕ) → st index.new result ≡ store_all (st index.old n) (labels_placed flow stitch (items_at file items.now)) }
+    visitor: &mut V,
+)
+    requires { V.ready visitor.old (labels_placed flow stitch (items_at file.now items.now)) }
+    ensures { V.visited visitor.old (labels_placed flow stitch (items_at file.now items.now)) visitor.new }
 {
-    let mut count = n;
-    let mut i = 0;
-    while i < items.len() {
-        count = put_label(items[i], flow, stitch, index, count);
-        i += 1;
+    for &item in items {
+        put_label(file, item, flow, stitch, visitor);
     }
-    count
 }
 
-// Stores a stitch: its name with its flow's, its parameters alone, its labels with both.
-fn put_stitch(
-    file: &[u8],
-    kept: &[u32],
-    v: StitchView,
-    flow: u32,
-    index: &mut [u32],
-    n: usize,
-) -> usize
+// Visits a stitch: its name with its flow's, its parameters alone, its labels with both.
+fn put_stitch<V: Visit>(file: &[u8], kept: &[u32], v: StitchView, flow: u32, visitor: &mut V)
     requires name_lt_params { (v.name < v.params) × (v.params < length file.now) × (length file.now ≤ 1048576) }
     requires rising { Rising kept.now }
-    ensures { st index.new result ≡ store_all (st index.old n) (stitch_placed flow (kept_stitch file.now kept.now v)) }
+    requires ready { V.ready visitor.old (stitch_placed flow (kept_stitch file.now kept.now v)) }
+    ensures { V.visited visitor.old (stitch_placed flow (kept_stitch file.now kept.now v)) visitor.new }
 {
     let name = v.name as u32;
-    let first = put_entry(
-        index,
-        n,
-        Places {
-            flow,
-            stitch: ABSENT,
-            own: name,
-        },
-    );
-    let second = put_params(file, v.params, index, first);
-    collect_labels_from_nodes(body_items(kept, v.from, v.to), flow, name, index, second)
+    let p = Places {
+        flow,
+        stitch: ABSENT,
+        own: name,
+    };
+    visitor.visit(p);
+    put_params(file, v.params, visitor);
+    let body = body_items(kept, v.from, v.to);
+    collect_labels_from_nodes(file, body, flow, name, visitor)
 }
 
-// Stores the stitches of a flow.
-fn put_stitches(
-    file: &[u8],
-    kept: &[u32],
-    from: usize,
-    end: usize,
-    flow: u32,
-    index: &mut [u32],
-    n: usize,
-) -> usize
-    requires range { Range file.now from end }
-    requires file_value { ends (stitches (part from end file.now)) ≡ well }
-    requires stitches_kept { StitchesKept file.now kept.now from end }
-    ensures { st index.new result ≡ store_all (st index.old n) (each (stitch_placed flow) (kept_stitches file.now from end)) }
+// Visits the stitches of a flow.
+fn put_stitches<V: Visit>(file: &[u8], kept: &[u32], v: FlowView, visitor: &mut V)
+    requires name_in_bounds { (v.name < length file.now) × Range file.now v.stitches v.end }
+    requires file_value { ends (stitches (part v.stitches v.end file.now)) ≡ well }
+    requires stitches_kept { StitchesKept file.now kept.now v.stitches v.end }
+    requires ready { V.ready visitor.old (each (stitch_placed v.name) (kept_stitches file.now v.stitches v.end)) }
+    ensures { V.visited visitor.old (each (stitch_placed v.name) (kept_stitches file.now v.stitches v.end)) visitor.new }
 {
-    let mut at = from;
+    let flow = v.name as u32;
+    let end = v.end;
+    let mut at = v.stitches;
     let mut rest = kept;
-    let mut count = n;
-    loop {
-        let StitchViewRead::View(v) = stitch_view(file, at, end) else {
-            return count;
-        };
-        count = put_stitch(file, rest, v, flow, index, count);
-        at = v.end;
-        let next = items_from(rest, at);
-        rest = next;
+    while let Some(s) = stitch_view(file, at, end) {
+        put_stitch(file, rest, s, flow, visitor);
+        at = s.end;
+        rest = items_from(rest, at);
     }
 }
 
 // The number that the labels of a flow bear, whose name stands at the place: none where the name is empty.
-fn prefix_number(file: &[u8], name: usize) -> u32
+pub fn prefix_number(file: &[u8], name: usize) -> u32
     requires { name ≤ 1048576 }
     ensures { result ≡ prefix_number (name_at file.now name) name }
 {
-    if name_at(file, name).len() == 0 {
+    if name_at(file, name).is_empty() {
         return ABSENT;
     }
     name as u32
 }
 
-// Stores a flow: its name and its parameters alone, its labels with its name, its stitches.
-fn put_flow(file: &[u8], kept: &[u32], v: FlowView, index: &mut [u32], n: usize) -> usize
+// Visits a flow: its name and its parameters alone, its labels with its name, its stitches.
+fn put_flow<V: Visit>(file: &[u8], kept: &[u32], v: FlowView, visitor: &mut V)
     requires name_lt_params { (v.name < v.params) × (v.params < length file.now) × Range file.now v.stitches v.end }
     requires file_value { ends (stitches (part v.stitches v.end file.now)) ≡ well }
     requires stitches_kept { StitchesKept file.now kept.now v.stitches v.end }
-    ensures { st index.new result ≡ store_all (st index.old n) (placed (flow_entries (kept_flow file.now kept.now v))) }
+    requires ready { V.ready visitor.old (placed (flow_entries (kept_flow file.now kept.now v))) }
+    ensures { V.visited visitor.old (placed (flow_entries (kept_flow file.now kept.now v))) visitor.new }
 {
-    let name = v.name as u32;
-    let first = put_entry(
-        index,
-        n,
-        Places {
-            flow: ABSENT,
-            stitch: ABSENT,
-            own: name,
-        },
-    );
-    let second = put_params(file, v.params, index, first);
+    let p = Places {
+        flow: ABSENT,
+        stitch: ABSENT,
+        own: v.name as u32,
+    };
+    visitor.visit(p);
+    put_params(file, v.params, visitor);
     let prefix = prefix_number(file, v.name);
     let own = body_items(kept, v.from, v.to);
-    let third = collect_labels_from_nodes(own, prefix, ABSENT, index, second);
-    put_stitches(file, kept, v.stitches, v.end, name, index, third)
+    collect_labels_from_nodes(file, own, prefix, ABSENT, visitor);
+    put_stitches(file, kept, v, visitor)
 }
 
-// Stores the flows of a story.
-fn put_flows(
-    file: &[u8],
-    kept: &[u32],
-    from: usize,
-    end: usize,
-    index: &mut [u32],
-    n: usize,
-) -> usize
+// Visits the flows of a story.
+fn put_flows<V: Visit>(file: &[u8], kept: &[u32], from: usize, end: usize, visitor: &mut V)
     requires range { Range file.now from end }
     requires file_value { ends (flows (part from end file.now)) ≡ well }
     requires flows_kept { FlowsKept file.now kept.now from end }
-    ensures { st index.new result ≡ store_all (st index.old n) (placed (each flow_entries (map flow_without_plain (flows_in from (part from end file.now))))) }
+    requires ready { V.ready visitor.old (placed (each flow_entries (map flow_without_plain (flows_in from (part from end file.now))))) }
+    ensures { V.visited visitor.old (placed (each flow_entries (map flow_without_plain (flows_in from (part from end file.now))))) visitor.new }
 {
     let mut at = from;
     let mut rest = kept;
-    let mut count = n;
-    loop {
-        let FlowViewRead::View(v) = flow_view(file, at, end) else {
-            return count;
-        };
-        count = put_flow(file, rest, v, index, count);
+    while let Some(v) = flow_view(file, at, end) {
+        put_flow(file, rest, v, visitor);
         at = v.end;
-        let next = items_from(rest, at);
-        rest = next;
+        rest = items_from(rest, at);
     }
+}
+
+// Visits THE ENTRIES of a readable file by its kept numbers: globals, labels of the root, flows.
+pub fn visit_entries<V: Visit>(file: &[u8], c: Sections, kept: &[u32], visitor: &mut V)
+    requires kept { Kept file.now c kept.now }
+    requires ready { V.ready visitor.old (placed (entries (story_in c file.now))) }
+    ensures { V.visited visitor.old (placed (entries (story_in c file.now))) visitor.new }
+{
+    let end = c.externals;
+    put_names(file, end, 0, end, visitor);
+    let own = body_items(kept, c.root, c.flows);
+    collect_labels_from_nodes(file, own, ABSENT, ABSENT, visitor);
+    put_flows(file, kept, c.flows, c.end, visitor)
 }
 
 // Writes the index of a readable file by its kept numbers: globals, labels of the root, flows. The entry count.
@@ -244,8 +228,7 @@ pub fn write_index(file: &[u8], c: Sections, kept: &[u32], index: &mut [u32]) ->
     requires { Kept file.now c kept.now }
     ensures { st index.new result ≡ store_all (st index.old 0) (placed (entries (story_in c file.now))) }
 {
-    let globals = put_names(file, c.externals, 0, c.externals, index, 0);
-    let own = body_items(kept, c.root, c.flows);
-    let root = collect_labels_from_nodes(own, ABSENT, ABSENT, index, globals);
-    put_flows(file, kept, c.flows, c.end, index, root)
+    let mut store = Store { index, count: 0 };
+    visit_entries(file, c, kept, &mut store);
+    store.count
 }

@@ -1,10 +1,10 @@
 // Targets looked for among the entries of the index.
-ghost use Rattle.std.specs.Prelude.{◌≡◌, ◌∷◌};
+ghost use Rattle.std.specs.Prelude.{◌≡◌, ◌∷◌, ◌/◌, ◌<◌, length};
 ghost use Rattle.names.specs.Words.{same, any, ends};
 ghost use Rattle.symbols.specs.Fits.{fit_of, end_fit, answers};
-ghost use Rattle.symbols.specs.Rows.{dotted_in, spelling_in, spellings_in, first_of, wanted, sought};
+ghost use Rattle.symbols.specs.Rows.{dotted_in, spelling_in, spellings_in, row_at, first_of, wanted, sought};
 
-use crate::{ABSENT, Fit, Found, Places};
+use crate::{ABSENT, Fit, Places};
 use names::{name_at, same_name};
 
 // The word s ends in "." and the other.
@@ -92,6 +92,26 @@ fn is_wanted(fit: Fit, exact: bool, ending: bool) -> bool
     }
 }
 
+// The target is the spelling of an entry, or the spelling ends in "." and the target.
+pub fn is_answer(file: &[u8], p: Places, target: &[u8]) -> bool
+    ensures { result ≡ answers target.now (spelling_in file.now p) }
+{
+    is_wanted(fit_entry(file, p, target), true, true)
+}
+
+// Entry number k of the index.
+pub fn entry_at(index: &[u32], k: usize) -> Places
+    requires { k < length index.now / 3 }
+    ensures { result ≡ row_at index.now k }
+{
+    let at = 3 * k;
+    Places {
+        flow: index[at],
+        stitch: index[at + 1],
+        own: index[at + 2],
+    }
+}
+
 // The number of the first of so many entries of the index whose spelling the target fits as wanted.
 fn find_entry(
     file: &[u8],
@@ -100,38 +120,26 @@ fn find_entry(
     target: &[u8],
     exact: bool,
     ending: bool,
-) -> Found
+) -> Option<usize>
     ensures { result ≡ first_of (sought exact ending target.now) 0 (spellings_in file.now count index.now) }
 {
-    let mut rest = index;
-    let mut k = 0;
-    while k < count {
-        if rest.len() < 3 {
-            return Found::Nowhere;
+    for k in 0..count.min(index.len() / 3) {
+        if is_wanted(fit_entry(file, entry_at(index, k), target), exact, ending) {
+            return Some(k);
         }
-        let p = Places {
-            flow: rest[0],
-            stitch: rest[1],
-            own: rest[2],
-        };
-        if is_wanted(fit_entry(file, p, target), exact, ending) {
-            return Found::At(k);
-        }
-        rest = &rest[3..];
-        k += 1;
     }
-    Found::Nowhere
+    None
 }
 
 // The number of the first of so many entries whose spelling is the target.
-pub fn find_exact(file: &[u8], index: &[u32], count: usize, target: &[u8]) -> Found
+pub fn find_exact(file: &[u8], index: &[u32], count: usize, target: &[u8]) -> Option<usize>
     ensures { result ≡ first_of (same target.now) 0 (spellings_in file.now count index.now) }
 {
     find_entry(file, index, count, target, true, false)
 }
 
 // The number of the first of so many entries whose spelling ends in "." and the target.
-pub fn find_ending(file: &[u8], index: &[u32], count: usize, target: &[u8]) -> Found
+pub fn find_ending(file: &[u8], index: &[u32], count: usize, target: &[u8]) -> Option<usize>
     ensures { result ≡ first_of (ends (46 ∷ target.now)) 0 (spellings_in file.now count index.now) }
 {
     find_entry(file, index, count, target, false, true)
@@ -141,9 +149,5 @@ pub fn find_ending(file: &[u8], index: &[u32], count: usize, target: &[u8]) -> F
 pub fn find_target(file: &[u8], index: &[u32], count: usize, target: &[u8]) -> bool
     ensures { result ≡ any (answers target.now) (spellings_in file.now count index.now) }
 {
-    let found = find_entry(file, index, count, target, true, true);
-    match found {
-        Found::At(_) => true,
-        Found::Nowhere => false,
-    }
+    find_entry(file, index, count, target, true, true).is_some()
 }

@@ -1,5 +1,5 @@
 -- An entry found by its number: where its spelling answers a target, some spelling does. Assumes nothing.
-use mathlib.Core.Path.{◌≡◌, refl, sym, ◌∙◌}
+use mathlib.Core.Path.{◌≡◌, refl}
 use mathlib.Core.Bool.{Bool, true, false}
 use mathlib.Core.List.Memᴰ
 use mathlib.Core.List.{List, [], ◌∷◌}
@@ -10,11 +10,9 @@ use Rattle.names.specs.Words.{Bytes, any, ◌∈◌}
 use Rattle.names.proofs.Bools.{is_true}
 use Rattle.names.proofs.Any.{any-in}
 use Rattle.symbols.specs.declared.Places.{Places}
-use Rattle.symbols.specs.declared.Fit.{Fit}
-use Rattle.symbols.specs.Fits.{fit_of, answers}
-use Rattle.symbols.specs.Rows.{rows, spelling_in, spellings_in, wanted, sought}
-use Rattle.symbols.proofs.Searched.{sought-either}
-use Rattle.tables.specs.Hints.{row_at, Answered}
+use Rattle.symbols.specs.Fits.{answers}
+use Rattle.symbols.specs.Rows.{rows, row_at, spelling_in, spellings_in}
+use Rattle.tables.specs.Hints.{Answered}
 
 -- an entry whose number is below the count is one of the first so many
 row_in : (k count : ℕ) (index : List ℕ) → k < count → 3 * k + 2 < length index → row_at index k ∈ take count (rows index)
@@ -31,12 +29,12 @@ row_in (suc k) (suc n) (a ∷ b ∷ c ∷ rest) h g =
     rw (second, third, first) (Memᴰ.tail (row_in k n rest (omega arith) (omega arith)))
 
 module _ (file : List ℕ) (target : Bytes) (count : ℕ) (index : List ℕ) where
-  pub entry-answered : (k : ℕ) → k < count → k < length index / 3 → {p : Places} {fit : Fit} {r : Bool} → p ≡ row_at index k → fit ≡ fit_of target (spelling_in file p)
-      → r ≡ wanted true true fit → Answered target (spellings_in file count index) r
-  unfolding sought spellings_in
-  entry-answered k h g p e w = record {
+  pub entry-answered : (k : ℕ) → k < count → k < length index / 3 → {p : Places} {r : Bool} → p ≡ row_at index k → r ≡ answers target (spelling_in file p)
+      → Answered target (spellings_in file count index) r
+  unfolding spellings_in
+  entry-answered k h g p e = record {
     some = λ y.
-        let fits : answers target (spelling_in file (row_at index k)) ≡ true = sym (sought-either target (spelling_in file (row_at index k))) ∙ rw (← p, ← e, ← w) y in
+        let fits : answers target (spelling_in file (row_at index k)) ≡ true = rw (← p, ← e) y in
         is_true (any (answers target) (spellings_in file count index))
         (any-in (answers target) (Memᴰ.map (spelling_in file) (row_in k count index h (omega arith))) (rw fits tt));
   }
@@ -44,6 +42,3 @@ module _ (file : List ℕ) (target : Bytes) (count : ℕ) (index : List ℕ) whe
 -- an answer of no says nothing
 pub not-answered : {target : Bytes} {spellings : List Bytes} → Answered target spellings false
 not-answered = record { some = λ y. let z : ◌≡◌ {A = ℕ} 0 1 = cc in absurd (omega arith) }
-
-pub answered-yes : {target : Bytes} {spellings : List Bytes} {r : Bool} → Answered target spellings r → r ≡ true → Answered target spellings true
-answered-yes a t = record { some = λ y. a.some t }

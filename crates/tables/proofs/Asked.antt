@@ -13,8 +13,8 @@ use Rattle.story.specs.Flows.{flows_in}
 use Rattle.story.specs.File.{story_in}
 use Rattle.searches.specs.Called.{is_function}
 use Rattle.searches.proofs.Answers.{flows-answer}
-use Rattle.tables.specs.declared.functions.Sought.{Sought}
-use Rattle.tables.specs.declared.functions.Sought.TheVariants as sought
+use Rattle.sets.specs.declared.Sought.{Sought}
+use Rattle.sets.specs.declared.Sought.TheVariants as sought
 use Rattle.tables.specs.Tables.{slot_of}
 use Rattle.tables.specs.Functions.{sought_of, Functions}
 use Rattle.tables.proofs.Seeking.{found-slot}

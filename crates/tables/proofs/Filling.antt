@@ -24,8 +24,8 @@ use Rattle.searches.specs.Called.{is_function}
 use Rattle.searches.specs.Views.{viewed_flow}
 use Rattle.tables.specs.Hashes.{hash_of}
 use Rattle.tables.specs.Tables.{Empty, slot_of}
-use Rattle.tables.specs.declared.functions.Sought.{Sought}
-use Rattle.tables.specs.declared.functions.Sought.TheVariants as sought
+use Rattle.sets.specs.declared.Sought.{Sought}
+use Rattle.sets.specs.declared.Sought.TheVariants as sought
 use Rattle.tables.specs.Functions.{sought_from, sought_of, is_vacant, with_place, with_flow, Functions}
 use Rattle.tables.proofs.Seeking.{vacant-slot, vacant-before, written-met}
 

@@ -5,3 +5,4 @@ pub mod Seeking
 pub mod Filling
 pub mod Asked
 pub mod Answering
+pub mod Ending

@@ -2,7 +2,7 @@
 use mathlib.Core.Path.{◌≡◌, refl, sym, ◌∙◌, ap}
 use mathlib.Core.Bool.{Bool, true, false}
 use mathlib.Core.List.{List}
-use Prim.Native.Nat.{ℕ, zero, suc, ◌+◌, ◌-◌, ◌%◌, ◌≤◌, ◌<◌}
+use Prim.Native.Nat.{ℕ, zero, suc, ◌+◌, ◌-◌, ◌<◌}
 use native.Mathlib.Nat.{mod-lt}
 use native.Mathlib.Omega.{arith}
 use native.Mathlib.Decide.{ℕ_discrete}
@@ -13,26 +13,26 @@ use Rattle.names.specs.Words.{Bytes, same}
 use Rattle.names.specs.Counted.{name_at}
 use Rattle.names.proofs.Bools.{is_true}
 use Rattle.names.proofs.Words.{same_refl}
-use Rattle.tables.specs.declared.functions.Sought.{Sought}
-use Rattle.tables.specs.declared.functions.Sought.TheVariants as sought
+use Rattle.sets.specs.declared.Sought.{Sought}
+use Rattle.sets.specs.declared.Sought.TheVariants as sought
 use Rattle.tables.specs.Hashes.{hash_of}
 use Rattle.tables.specs.Tables.{slot_of, next_slot}
 use Rattle.tables.specs.Functions.{sought_at, sought_from, sought_of, is_vacant}
 use Rattle.tables.proofs.Tables.{next-inside}
 
 -- at an empty slot
-at-vacant : {m : ℕ} (b : Bool) (slot : ℕ) (x : Sought) → m ≡ 0 → sought_at m b slot x ≡ sought.Vacant slot
+pub at-vacant : {m : ℕ} (b : Bool) (slot : ℕ) (x : Sought) → m ≡ 0 → sought_at m b slot x ≡ sought.Vacant slot
 unfolding sought_at
 at-vacant b slot x z = rw z
 
 -- at a slot that leads to the name
-at-found : (m : ℕ) {b : Bool} (slot : ℕ) (x : Sought) → (m ≡ 0 → ⊥) → b ≡ true → sought_at m b slot x ≡ sought.Found
+pub at-found : (m : ℕ) {b : Bool} (slot : ℕ) (x : Sought) → (m ≡ 0 → ⊥) → b ≡ true → sought_at m b slot x ≡ sought.Found
 unfolding sought_at
 at-found zero slot x z t = absurd (z refl)
 at-found (suc m) slot x z t = rw t
 
 -- at a slot that leads to another name
-at_other : (m : ℕ) {b : Bool} (slot : ℕ) (x : Sought) → (m ≡ 0 → ⊥) → b ≡ false → sought_at m b slot x ≡ x
+pub at_other : (m : ℕ) {b : Bool} (slot : ℕ) (x : Sought) → (m ≡ 0 → ⊥) → b ≡ false → sought_at m b slot x ≡ x
 unfolding sought_at
 at_other zero slot x z t = absurd (z refl)
 at_other (suc m) slot x z t = rw t
@@ -51,29 +51,6 @@ module _ (file table : List ℕ) (n : Bytes) where
 
   abbrev further : ℕ → ℕ → Sought
   further k slot = sought_from k file table n (next_slot (length table) slot)
-
-  walk_step : (left slot : ℕ) → 0 < left → sought_from left file table n slot ≡ sought_at (get_or table slot 0) (meets slot) slot (further (left - 1) slot)
-  unfolding sought_from
-  walk_step zero slot h = absurd (omega arith)
-  walk_step (suc k) slot h = let e : suc k - 1 ≡ k = omega arith in rw e
-
-  pub walk_start : {hash slot : ℕ} → hash ≡ hash_of n → slot ≡ hash % length table → sought_of file table n ≡ sought_from 8 file table n slot
-  walk_start p q = rw (q, p)
-
-  module _ (left slot : ℕ) (i : sought_of file table n ≡ sought_from left file table n slot) where
-    pub walk-vacant : 0 < left → get_or table slot 0 ≡ 0 → sought.Vacant slot ≡ sought_of file table n
-    walk-vacant h z = sym (i ∙ walk_step left slot h ∙ at-vacant (meets slot) slot (further (left - 1) slot) z)
-
-    pub walk-found : {r : Bool} → 0 < left → (get_or table slot 0 ≡ 0 → ⊥) → r ≡ meets slot → r ≡ true → sought.Found ≡ sought_of file table n
-    walk-found h z e t = sym (i ∙ walk_step left slot h ∙ at-found (get_or table slot 0) slot (further (left - 1) slot) z (sym e ∙ t))
-
-    pub walk-further : {r : Bool} {slot' : ℕ} → 0 < left → (get_or table slot 0 ≡ 0 → ⊥) → r ≡ meets slot → r ≡ false → slot' ≡ next_slot (length table) slot
-        → sought_of file table n ≡ sought_from (left - 1) file table n slot'
-    walk-further h z e t q = rw q (i ∙ walk_step left slot h ∙ at_other (get_or table slot 0) slot (further (left - 1) slot) z (sym e ∙ t))
-
-    pub walk-exhausted : left ≤ 0 → sought.Exhausted ≡ sought_of file table n
-    unfolding sought_from
-    walk-exhausted h = let z : left ≡ 0 = omega arith in sym (rw z at i)
 
   -- the slot at which the walk ended is empty, and one of the table's
   pub vacant-slot : (k slot s : ℕ) → slot < length table → sought_from k file table n slot ≡ sought.Vacant s → (s < length table) × (get_or table s 0 ≡ 0)

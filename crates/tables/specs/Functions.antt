@@ -8,8 +8,8 @@ use Rattle.story.specs.declared.Sections.{Sections}
 use Rattle.story.specs.File.{story_in}
 use Rattle.searches.specs.declared.views.FlowView.{FlowView}
 use Rattle.searches.specs.Called.{is_function}
-use Rattle.tables.specs.declared.functions.Sought.{Sought}
-use Rattle.tables.specs.declared.functions.Sought.TheVariants as sought
+use Rattle.sets.specs.declared.Sought.{Sought}
+use Rattle.sets.specs.declared.Sought.TheVariants as sought
 use Rattle.tables.specs.Tables.{slot_of, next_slot}
 
 -- at a slot with this number, which leads to the name or does not: where the walk ends, if further slots give the last

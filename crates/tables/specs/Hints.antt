@@ -1,5 +1,5 @@
--- Entries of the index by their numbers, and an answer that is right where it is yes. Assumes nothing.
-use Rattle.std.specs.Prelude.{ℕ, ◌+◌, ◌*◌, ◌≡◌, Bool, true, List, [], ◌∷◌, get_or, eqb}
+-- The hashes of entries of the index, and an answer that is right where it is yes. Assumes nothing.
+use Rattle.std.specs.Prelude.{ℕ, ◌≡◌, Bool, true, List, [], ◌∷◌, eqb}
 use Rattle.fields.specs.Bytes.{pick}
 use Rattle.names.specs.Counted.{name_at}
 use Rattle.symbols.specs.Numbers.{absent}
@@ -7,10 +7,6 @@ use Rattle.tables.specs.Hashes.{hash_on}
 use Rattle.names.specs.Words.{Bytes, any}
 use Rattle.symbols.specs.declared.Places.{Places}
 use Rattle.symbols.specs.Fits.{answers}
-
--- entry number k of the index
-abbrev pub row_at : List ℕ → ℕ → Places
-row_at index k = record { flow = get_or index (3 * k) 0; stitch = get_or index (3 * k + 1) 0; own = get_or index (3 * k + 2) 0 }
 
 -- the hash goes on over the name at the place and a dot, where there is a name
 unfoldable pub dotted_hash : List ℕ → ℕ → ℕ → ℕ

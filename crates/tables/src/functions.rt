@@ -1,44 +1,29 @@
 // The table of a story's functions.
-ghost use Rattle.std.specs.Prelude.{◌≡◌, ◌≤◌, ◌<◌, length};
-ghost use Rattle.names.specs.Words.{any};
+ghost use Rattle.std.specs.Prelude.{Ok, ◌≡◌, ◌-◌, ◌≤◌, ◌<◌, length};
+ghost use Rattle.names.specs.Words.{same, any};
+ghost use Rattle.names.specs.Counted.{name_at};
 ghost use Rattle.story.specs.File.{read_of, InOrder, story_in};
 ghost use Rattle.searches.specs.Called.{is_function};
 ghost use Rattle.tables.specs.Functions.{sought_of, with_flow, Functions};
 
-use crate::clear;
-use crate::hashes::{TRIES, hash_of, next_slot, slot_of};
+use crate::hashes::hash_of;
+use crate::{clear, seek};
 use names::{name_at, same_at};
 use searches::is_function_name;
-use searches::views::{FlowView, FlowViewRead, flow_view};
-use story::{Opened, Sections};
-
-// Where a walk over the slots of a name ends: at the name, at an empty slot, or past the last slot that is tried.
-#[derive(Clone, Copy)]
-pub enum Sought {
-    Found,
-    Vacant(usize),
-    Exhausted,
-}
+use searches::views::{FlowView, flow_view};
+use sets::Sought;
+use story::Sections;
 
 // Goes over the slots of a name up to the name or an empty slot.
-fn seek(file: &[u8], table: &[u32], name: &[u8]) -> Sought
+fn seek_name(file: &[u8], table: &[u32], name: &[u8]) -> Sought
     requires { 0 < length table.now }
     ensures { result ≡ sought_of file.now table.now name.now }
 {
-    let mut slot = slot_of(hash_of(name), table.len());
-    let mut left = TRIES;
-    while 0 < left {
-        let number = table[slot] as usize;
-        if number == 0 {
-            return Sought::Vacant(slot);
-        }
-        if same_at(file, number - 1, name) {
-            return Sought::Found;
-        }
-        slot = next_slot(slot, table.len());
-        left = left - 1;
-    }
-    Sought::Exhausted
+    let is_met = |number: usize| -> bool
+        requires { number ≡ 0 → ⊥ }
+        ensures { result ≡ same name.entry.now (name_at file.entry.now (number - 1)) }
+    { same_at(file, number - 1, name) };
+    seek(table, hash_of(name), is_met)
 }
 
 // Writes the name's place of a flow that is a function into the first empty slot of the name, unless the name stands before it.
@@ -47,12 +32,10 @@ fn put_flow(file: &[u8], v: FlowView, table: &mut [u32])
     ensures { table.new ≡ with_flow file.now v table.old }
 {
     if v.function {
-        let found = seek(file, table, name_at(file, v.name));
+        let found = seek_name(file, table, name_at(file, v.name));
         match found {
             Sought::Found => {}
-            Sought::Vacant(slot) => {
-                table[slot] = (v.name + 1) as u32;
-            }
+            Sought::Vacant(slot) => table[slot] = (v.name + 1) as u32,
             Sought::Exhausted => {}
         }
     }
@@ -60,7 +43,7 @@ fn put_flow(file: &[u8], v: FlowView, table: &mut [u32])
 
 // Writes the table of the functions of a readable file. A slot has 1 + the place of the name of a function, or 0.
 pub fn put_functions(file: &[u8], c: Sections, table: &mut [u32])
-    requires { read_of file.now ≡ Opened.At c }
+    requires { read_of file.now ≡ Ok c }
     ensures { Functions file.now c table.new }
 {
     clear(table);
@@ -68,10 +51,7 @@ pub fn put_functions(file: &[u8], c: Sections, table: &mut [u32])
         return;
     }
     let mut at = c.flows;
-    loop {
-        let FlowViewRead::View(v) = flow_view(file, at, c.end) else {
-            return;
-        };
+    while let Some(v) = flow_view(file, at, c.end) {
         put_flow(file, v, table);
         at = v.end;
     }
@@ -82,9 +62,7 @@ fn is_function_listed(file: &[u8], c: Sections, name: &[u8]) -> bool
     requires { InOrder c file.now }
     ensures { result ≡ any (is_function name.now) (story_in c file.now).flows }
 {
-    let flows = c.flows;
-    let end = c.end;
-    is_function_name(&file[flows..end], name)
+    is_function_name(&file[c.flows..c.end], name)
 }
 
 // The name is a function's: by the table, or by going through the flows where other functions have all slots of the name.
@@ -96,7 +74,7 @@ pub fn is_function_in(file: &[u8], c: Sections, table: &[u32], name: &[u8]) -> b
     if table.len() == 0 {
         return is_function_listed(file, c, name);
     }
-    let found = seek(file, table, name);
+    let found = seek_name(file, table, name);
     match found {
         Sought::Found => true,
         Sought::Vacant(_) => false,

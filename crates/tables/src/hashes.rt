@@ -11,10 +11,8 @@ pub fn hash_on(start: usize, word: &[u8]) -> usize
     ensures { result ≡ hash_on start word.now }
 {
     let mut hash = start % 1048576;
-    let mut i = 0;
-    while i < word.len() {
-        hash = (hash * 33 + word[i] as usize) % 1048576;
-        i += 1;
+    for &byte in word {
+        hash = (hash * 33 + byte as usize) % 1048576;
     }
     hash
 }

@@ -1,32 +1,26 @@
 // A table of entry numbers by the hash of a spelling. What stands in it are numbers to try: the entry is compared before it counts.
-ghost use Rattle.std.specs.Prelude.{◌≡◌, true, ◌/◌, ◌≤◌, ◌<◌, length};
+ghost use Rattle.std.specs.Prelude.{◌≡◌, ◌/◌, ◌≤◌, length};
 ghost use Rattle.names.specs.Words.{any};
 ghost use Rattle.symbols.specs.Fits.{answers};
-ghost use Rattle.symbols.specs.Rows.{spellings_in, wanted};
-ghost use Rattle.tables.specs.Hints.{row_at, dotted_hash, entry_hash, Answered};
+ghost use Rattle.symbols.specs.Rows.{spellings_in};
+ghost use Rattle.tables.specs.Hints.{dotted_hash, entry_hash, Answered};
 
-use crate::clear;
-use crate::hashes::{TRIES, hash_of, hash_on, next_slot, slot_of};
+use crate::hashes::{hash_of, hash_on};
+use crate::{clear, seek};
 use names::name_at;
-use symbols::targets::{find_target, fit_entry};
-use symbols::{ABSENT, Fit, Places};
+use sets::Sought;
+use symbols::targets::{entry_at, find_target, is_answer};
+use symbols::{ABSENT, Places};
 
 // Writes the number into the first empty slot of those that the hash has; where there is none, nothing.
 fn put_hint(table: &mut [u32], hash: usize, number: u32)
     ensures { length table.new ≡ length table.old }
 {
-    if table.len() == 0 {
+    if table.is_empty() {
         return;
     }
-    let mut slot = slot_of(hash, table.len());
-    let mut left = TRIES;
-    while 0 < left {
-        if table[slot] == 0 {
-            table[slot] = number;
-            return;
-        }
-        slot = next_slot(slot, table.len());
-        left = left - 1;
+    if let Sought::Vacant(slot) = seek(table, hash, |_| false) {
+        table[slot] = number;
     }
 }
 
@@ -49,34 +43,11 @@ fn hash_entry(file: &[u8], p: Places) -> usize
     hash_on(stitch, name_at(file, p.own as usize))
 }
 
-// The smaller of two numbers.
-fn smaller(a: usize, b: usize) -> usize
-    ensures { (result ≤ a) × (result ≤ b) }
-{
-    if a < b {
-        return a;
-    }
-    b
-}
-
 // How many entries have hints: as many as are counted and stand in the index, at most as many as a file has bytes.
 fn entry_count(index: &[u32], count: usize) -> usize
     ensures { (result ≤ length index.now / 3) × (result ≤ 1048576) }
 {
-    smaller(smaller(count, 1048576), index.len() / 3)
-}
-
-// Entry number k of the index.
-fn entry_at(index: &[u32], k: usize) -> Places
-    requires { k < length index.now / 3 }
-    ensures { result ≡ row_at index.now k }
-{
-    let at = 3 * k;
-    Places {
-        flow: index[at],
-        stitch: index[at + 1],
-        own: index[at + 2],
-    }
+    count.min(1048576).min(index.len() / 3)
 }
 
 // Writes the numbers of the entries, plus 1, by their spellings and, where a flow's name stands before it, by their own names. Nothing is
@@ -86,25 +57,13 @@ pub fn put_hints(file: &[u8], index: &[u32], count: usize, hints: &mut [u32])
 {
     clear(hints);
     let end = entry_count(index, count);
-    let mut k = 0;
-    while k < end {
+    for k in 0..end {
         let p = entry_at(index, k);
-        k += 1;
-        put_hint(hints, hash_entry(file, p), k as u32);
+        let number = k as u32 + 1;
+        put_hint(hints, hash_entry(file, p), number);
         if p.flow != ABSENT {
-            put_hint(hints, hash_of(name_at(file, p.own as usize)), k as u32);
+            put_hint(hints, hash_of(name_at(file, p.own as usize)), number);
         }
-    }
-}
-
-// The target is the spelling, or the spelling ends in "." and the target.
-fn is_answer(fit: Fit) -> bool
-    ensures { result ≡ wanted true true fit }
-{
-    match fit {
-        Fit::Exact => true,
-        Fit::Ending => true,
-        Fit::Differs => false,
     }
 }
 
@@ -112,13 +71,7 @@ fn is_answer(fit: Fit) -> bool
 fn entry_answers(file: &[u8], index: &[u32], count: usize, k: usize, target: &[u8]) -> bool
     ensures { Answered target.now (spellings_in file.now count index.now) result }
 {
-    if count <= k {
-        return false;
-    }
-    if index.len() / 3 <= k {
-        return false;
-    }
-    is_answer(fit_entry(file, entry_at(index, k), target))
+    k < count.min(index.len() / 3) && is_answer(file, entry_at(index, k), target)
 }
 
 // One of the slots that the hash has leads to an entry that answers the target.
@@ -132,23 +85,15 @@ fn find_in_slots(
 ) -> bool
     ensures { Answered target.now (spellings_in file.now count index.now) result }
 {
-    if table.len() == 0 {
+    if table.is_empty() {
         return false;
     }
-    let mut slot = slot_of(hash, table.len());
-    let mut left = TRIES;
-    while 0 < left {
-        let number = table[slot] as usize;
-        if number == 0 {
-            return false;
-        }
-        if entry_answers(file, index, count, number - 1, target) {
-            return true;
-        }
-        slot = next_slot(slot, table.len());
-        left = left - 1;
-    }
-    false
+    let is_met = |number: usize| -> bool
+        requires { number ≡ 0 → ⊥ }
+        ensures { Answered target.entry.now (spellings_in file.entry.now count index.entry.now) result }
+    { entry_answers(file, index, count, number - 1, target) };
+    let found = seek(table, hash, is_met);
+    matches!(found, Sought::Found)
 }
 
 // Some of so many entries is spelled as the target, or ends in "." and the target: by the table, or by going through the entries.
@@ -161,8 +106,6 @@ pub fn find_target_in(
 ) -> bool
     ensures { result ≡ any (answers target.now) (spellings_in file.now count index.now) }
 {
-    if find_in_slots(file, index, count, hints, hash_of(target), target) {
-        return true;
-    }
-    find_target(file, index, count, target)
+    find_in_slots(file, index, count, hints, hash_of(target), target)
+        || find_target(file, index, count, target)
 }

@@ -2,12 +2,14 @@
 use mathlib.Core.Path.{◌≡◌, refl, sym, ◌∙◌, ap}
 use mathlib.Core.Bool.{Bool, true, false}
 use mathlib.Core.List.{List, [], ◌∷◌, ◌++◌, append-nil}
-use Prim.Native.Nat.{ℕ, zero, suc, ◌+◌, ◌-◌, ◌≤◌, ◌<◌}
+use Prim.Native.Nat.{ℕ, zero, suc, ◌+◌, ◌-◌, ◌<◌}
 use native.Mathlib.Omega.{arith}
 use native.Mathlib.Numerals.{add-one}
 use lib.Dec.{eqb}
-use lib.ListN.{length, get_or, take, drop, length-drop, drop_of_length-le}
-use lib.Seq.{drop-cons}
+use lib.ListN.{length, get_or, take, drop, length-drop}
+use native.Mathlib.Decide.{ℕ_discrete}
+use Rattle.std.specs.Prelude.{count_by, cond}
+use Rattle.std.proofs.lemmas.List.Recursion.{is_count_by}
 use borrow.Author.Tests.{ne_eqb}
 use Rattle.fields.specs.Bytes.{pick}
 use Rattle.fields.proofs.Laws.{to_end}
@@ -125,33 +127,18 @@ ends-count w = refl
 
 -- 4. Dots counted, and passed
 
--- so many dots stand before i
-pub record Dots (w : Bytes) (count i : ℕ) : Type 0 where
-  pub few : count ≤ i
-  pub sum : count + length (after_dots (drop i w)) ≡ length (after_dots w)
+-- as many ends follow dots as there are dots
+dots-more : (x : ℕ) (w : Bytes) → length (after_dots (x ∷ w)) ≡ cond (eqb x 46) (1 + length (after_dots w)) (length (after_dots w))
+unfolding after_dots
+dots-more x w = by-dot (ℕ_discrete x 46)
+  where
+    by-dot : Dec (x ≡ 46) → length (only (eqb 46 x) w ++ after_dots w) ≡ cond (eqb x 46) (1 + length (after_dots w)) (length (after_dots w))
+    by-dot (yes e) = rw e (omega arith)
+    by-dot (no n) = rw (ne_eqb x 46 n, ne_eqb 46 x (λ e. n (sym e)))
 
--- none before the first byte
-pub dots-start : (w : Bytes) → Dots w 0 0
-dots-start w = record { few = omega arith; sum = omega arith }
-
-module _ {w : Bytes} {count i : ℕ} (d : Dots w count i) where
-  -- a dot at i
-  pub dots-dot : i < length w → get_or w i 0 ≡ 46 → Dots w (count + 1) (i + 1)
-  unfolding after_dots
-  dots-dot h e = record { few = omega (arith, d.few); sum = rw (add-one i) (omega (arith, rw (drop-cons w i 0 h, e) at d.sum)) }
-
-  -- another byte at i
-  pub dots-other : i < length w → (get_or w i 0 ≡ 46 → ⊥) → Dots w count (i + 1)
-  unfolding after_dots
-  dots-other h n = record {
-    few = omega (arith, d.few);
-    sum = rw (add-one i) (rw (drop-cons w i 0 h, ne_eqb 46 (get_or w i 0) (λ e. n (sym e))) at d.sum);
-  }
-
-  -- all bytes were passed
-  pub dots-end : length w ≤ i → count ≡ length (after_dots w)
-  unfolding after_dots
-  dots-end h = omega (arith, rw (drop_of_length-le w h) at d.sum)
+pub dots-counted : (w : Bytes) → length (after_dots w) ≡ count_by (λ (x : ℕ). eqb x 46) w
+unfolding after_dots
+dots-counted w = is_count_by (λ (v : Bytes). length (after_dots v)) (λ (x : ℕ). eqb x 46) refl dots-more w
 
 -- what follows the dots of the word follows so many dots of the rest
 pub record Passing (w : Bytes) (dots : ℕ) (rest : Bytes) (left : ℕ) : Type 0 where

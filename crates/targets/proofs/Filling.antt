@@ -6,6 +6,8 @@ use mathlib.Core.Logic.{inl, inr}
 use Prim.Native.Nat.{ℕ, ◌+◌, ◌<◌}
 use native.Mathlib.Omega.{arith}
 use borrow.Author.Tests.{eq-eqb, ne_eqb}
+use Rattle.std.specs.Prelude.{Result, Ok, Err, is_err}
+use Rattle.std.specs.Result.{result_and}
 use Rattle.names.specs.Words.{Bytes, any, one_of}
 use Rattle.names.proofs.Bools.{is_true}
 use Rattle.sets.specs.Sets.{held, Empty, Reachable}
@@ -69,9 +71,14 @@ module _ (file : List ℕ) (p : Places) where
       → Gained (end_slots file) (ends_from file p.flow (after file stitch ++ after file own)) before second a
       → Gained (end_slots file) (ends_from file p.stitch (after file 0 ++ after file own)) second third b
       → Gained (end_slots file) (ends_from file p.own (after file 0 ++ after file 0)) third last c
-      → EntryPut file p before last (a || (b || c))
-  entry-put f o s x y z =
-      entry-gained (rw (← ends-spelling file p (own-there f), ← o, ← s) (gained-append x (gained-append y z)))
+      → EntryPut file p before last ((a || b) || c)
+  entry-put {a = a} {b} {c} f o s x y z =
+      entry-gained (rw (← ends-spelling file p (own-there f), ← o, ← s, or_assoc a b c) (gained-append x (gained-append y z)))
+
+-- one of two answers is an error
+pub err-either : {E : Type 0} (x y : Result (Unit {0}) E) → is_err (result_and x y) ≡ is_err x || is_err y
+err-either (Ok a) y = refl
+err-either (Err e) y = refl
 
 -- 2. Entries one after the other
 

@@ -6,7 +6,6 @@ use mathlib.Core.Logic.{⊎_elim}
 use Prim.Native.Nat.{ℕ, suc, ◌+◌, ◌-◌, ◌*◌, ◌/◌, ◌%◌, ◌≤◌, ◌<◌}
 use native.Mathlib.Omega.{arith}
 use native.Mathlib.Numerals.{add-one}
-use native.Mathlib.Decide.{ℕ_discrete}
 use lib.Dec.{T}
 use lib.ListN.{length, get_or, set, take, drop, take-append-drop, length-map, get_or-map}
 use lib.Seq.{take-suc, take_all}
@@ -17,14 +16,14 @@ use Rattle.names.proofs.Words.{eq-same}
 use Rattle.names.proofs.Any.{any_append}
 use Rattle.sets.specs.declared.Sought.{Sought}
 use Rattle.sets.specs.declared.Sought.TheVariants as sought
-use Rattle.sets.specs.Hashes.{hash_of, homes, home_of}
-use Rattle.sets.specs.Sets.{Slots, held, Reachable, Room}
+use Rattle.sets.specs.Hashes.{home_of}
+use Rattle.sets.specs.Sets.{Slots, held, Reachable, Room, Walked}
 use Rattle.sets.proofs.Held.{held_at}
 use Rattle.sets.proofs.Putting.{put-known, reachable-after, holds_after}
 use Rattle.targets.specs.declared.DottedEnd.{DottedEnd}
 use Rattle.targets.specs.Ends.{after_dots, dotted_ends}
 use Rattle.targets.specs.Slots.{after, end_word, slot_end, end_slots}
-use Rattle.targets.specs.Put.{EndFits, Probed, Gained}
+use Rattle.targets.specs.Put.{EndFits, Compared, Probed, Gained}
 use Rattle.targets.specs.Entries.{ends_with}
 use Rattle.targets.proofs.Dotted.{ends-nth, ends-count}
 
@@ -34,35 +33,12 @@ never q = absurd (let z : ◌≡◌ {A = ℕ} 0 1 = cc in omega arith)
 
 -- 1. The walk
 
--- no slot from the word's home up to s is empty
-pub record Taken (slots : List ℕ) (w : Bytes) (s : ℕ) : Type 0 where
-  pub home : home_of (length slots) w ≤ s
-  pub between : (j : ℕ) → home_of (length slots) w ≤ j → j < s → get_or slots j 0 ≡ 0 → ⊥
-
--- at the home
-pub taken_start : (slots : List ℕ) {w : Bytes} {hash s : ℕ} → hash ≡ hash_of w → s ≡ hash * homes (length slots) / 4294967296 → Taken slots w s
-unfolding home_of
-taken_start slots {w} {s = s} p q =
-    let e : s ≡ home_of (length slots) w = rw (q, p) in
-    record { home = omega arith; between = λ j h l. absurd (omega arith) }
-
-module _ {slots : List ℕ} {w : Bytes} {s : ℕ} (t : Taken slots w s) where
-  -- the slot s is not empty
-  pub taken_next : (get_or slots s 0 ≡ 0 → ⊥) → Taken slots w (s + 1)
-  taken_next z = record { home = omega (arith, t.home); between = λ j h l. filled j h l (ℕ_discrete j s) }
-    where
-      filled : (j : ℕ) → home_of (length slots) w ≤ j → j < s + 1 → Dec (j ≡ s) → get_or slots j 0 ≡ 0 → ⊥
-      filled j h l (yes q) = rw q z
-      filled j h l (no q) = t.between j h (omega arith)
-
-  -- the slot s is empty
-  pub taken-room : s < length slots → get_or slots s 0 ≡ 0 → Room slots w s
-  taken-room l z = record { inside = l; empty = z; home = t.home; between = t.between }
-
--- a slot has the word
-pub probed-found : (k : Slots) (slots : List ℕ) (w : Bytes) (s : ℕ) {r : Bool} → (get_or slots s 0 ≡ 0 → ⊥) → (r ≡ true → w ≡ k.word (get_or slots s 0)) → r ≡ true
-    → one_of w (held k slots) ≡ true
-probed-found k slots w s z e t = is_true (one_of w (held k slots)) (held_at k w slots s z (eq-same w (k.word (get_or slots s 0)) (e t)))
+-- a walk from a word's home that compares the names of each slot
+pub walked-probed : (k : Slots) (slots : List ℕ) (w : Bytes) {home : ℕ} → home ≡ home_of (length slots) w → (x : Sought) → Walked (Compared k slots w) home (length slots) x → Probed k slots w x
+walked-probed k slots w e sought.Found h =
+    is_true (one_of w (held k slots)) (held_at k w slots h.0 h.2.0 (eq-same w (k.word (get_or slots h.0 0)) h.2.1))
+walked-probed k slots w e (sought.Vacant s) h = record { inside = h.2; empty = h.3; home = rw (← e) h.1; between = λ j g l. h.0.other j (rw e g) l }
+walked-probed k slots w e sought.Exhausted h = tt
 
 -- 2. Words one after the other
 

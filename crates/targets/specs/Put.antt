@@ -1,8 +1,10 @@
 -- Putting ends into a set of targets. Assumes nothing.
-use Rattle.std.specs.Prelude.{ℕ, ◌<◌, ◌≡◌, Bool, true, false, ◌||◌, List, ◌⊎◌, T}
+use Rattle.std.specs.Prelude.{ℕ, ◌<◌, ◌≡◌, Bool, true, false, ◌||◌, List, ◌⊎◌, T, get_or}
 use Rattle.names.specs.Words.{Bytes, one_of}
 use Rattle.sets.specs.declared.Sought.{Sought}
 use Rattle.sets.specs.declared.Sought.TheVariants as sought
+use Rattle.sets.specs.declared.Look.{Look}
+use Rattle.sets.specs.declared.Look.TheVariants as look
 use Rattle.sets.specs.Sets.{Slots, held, Reachable, Room}
 use Rattle.targets.specs.declared.DottedEnd.{DottedEnd}
 use Rattle.symbols.specs.Numbers.{absent}
@@ -25,6 +27,12 @@ pub record EndFits (e : DottedEnd) : Type 0 where
   pub dots : e.dots < 16
 
 -- 2. Putting words
+
+-- what a slot is to a walk that looks for the word by its names: other names can make the same word
+abbrev pub Compared : Slots → List ℕ → Bytes → ℕ → Look → Type 0
+Compared k set w at look.Empty = get_or set at 0 ≡ 0
+Compared k set w at look.Met = (get_or set at 0 ≡ 0 → ⊥) × (w ≡ k.word (get_or set at 0))
+Compared k set w at look.Other = get_or set at 0 ≡ 0 → ⊥
 
 -- what the end of the walk over the slots of a word that is to be put says
 abbrev pub Probed : Slots → List ℕ → Bytes → Sought → Type 0

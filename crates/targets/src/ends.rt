@@ -14,15 +14,7 @@ use sets::hashes::{hash_of, hash_on};
 pub fn count_dots(word: &[u8]) -> usize
     ensures { result ≡ length (after_dots word.now) }
 {
-    let mut count = 0;
-    let mut i = 0;
-    while i < word.len() {
-        if word[i] == b'.' {
-            count += 1;
-        }
-        i += 1;
-    }
-    count
+    word.iter().filter(|&&byte| byte == b'.').count()
 }
 
 // What follows so many dots of the word: nothing where it has fewer.
@@ -140,10 +132,7 @@ pub fn same_end(file: &[u8], e: DottedEnd, word: &[u8]) -> bool
 fn same_places(file: &[u8], a: usize, b: usize) -> bool
     ensures { result ≡ true → name_at file.now a ≡ name_at file.now b }
 {
-    if a == b {
-        return true;
-    }
-    same_at(file, b, name_at(file, a))
+    a == b || same_at(file, b, name_at(file, a))
 }
 
 // The names of the two numbers are the same, or there is none for either.

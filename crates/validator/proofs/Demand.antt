@@ -6,6 +6,7 @@ use mathlib.Core.Option.{Option, none, some}
 use Prim.Native.Nat.{ℕ, ◌≤◌}
 use native.Mathlib.Omega.{arith}
 use lib.ListN.{length, replicate, length-replicate}
+use Rattle.std.proofs.Common.{Ok}
 use borrow.Author.Tests.{le-ltb}
 use Rattle.records.specs.Buffers.{overlay}
 use Rattle.rules.specs.Steps.{Breach, verdict}
@@ -13,9 +14,8 @@ use Rattle.rules.specs.Reader.{Readable, story_at, story_of}
 use Rattle.rules.proofs.FileDemand.{file-demand3}
 use Rattle.symbols.specs.Index.{entries}
 use Rattle.symbols.specs.Numbers.{index_room}
-use Rattle.validator.specs.declared.Answer.{Answer}
-use Rattle.validator.specs.declared.Answer.TheVariants.{Accepted, Breached}
-use Rattle.validator.specs.Results.{Judged, accepted, checked, result_of}
+use Rattle.validator.specs.declared.Verdict.TheVariants.{Accepted, Breached}
+use Rattle.validator.specs.Results.{Judged, accepted, checked, Answer, result_of}
 use Rattle.validator.specs.Check.{judged_of, text_of, Report, story_report, report_at, report_of}
 use Rattle.validator.specs.Checked.{Checked}
 use Rattle.validator.specs.Demand.{Returns, Demand3}
@@ -47,8 +47,8 @@ demand3 = record {
 
 -- an answer with the number and values of a verdict
 answer_for : Option Breach → ℕ → ℕ → Answer
-answer_for none entries size = Accepted entries
-answer_for (some b) entries size = Breached (record { rule = b.rule; place = b.place; first = b.names.0; second = b.names.1; entries = entries; message = size })
+answer_for none entries size = Ok (Accepted entries)
+answer_for (some b) entries size = Ok (Breached (record { rule = b.rule; place = b.place; first = b.names.0; second = b.names.1; entries = entries; message = size }))
 
 answer-for : (file : List ℕ) (v : Option Breach) (entries : ℕ) → result_of (answer_for v entries (length (text_of file v))) ≡ checked (judged_of v) entries (length (text_of file v))
 unfolding answer_for result_of judged_of text_of

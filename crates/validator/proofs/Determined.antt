@@ -3,13 +3,14 @@ use mathlib.Core.Path.{◌≡◌, refl, sym, ◌∙◌, ap}
 use mathlib.Core.List.{List, [], ◌∷◌}
 use Prim.Native.Nat.{ℕ}
 use lib.ListN.{get_or}
+use Rattle.std.proofs.Common.{Ok, Err}
 use Rattle.fields.proofs.Refusals.{by_number, refusal-at}
 use Rattle.rules.specs.declared.Rule.{Rule}
 use Rattle.rules.specs.declared.Rule.TheVariants.{FunctionDivertedTo, TargetNotFound, FlowCalled, NameIsFunction, NameIsGlobal, TempIsParameter, TempIsLabel, ParameterUnmarked, ParameterAlreadyMarked, GatherRepeated, ChoiceUndiverted, FunctionWithStitches, FunctionWithChoice, FunctionWithDivert, VariableForbidden}
 use Rattle.rules.specs.Rules.{number}
-use Rattle.validator.specs.declared.Answer.{Answer}
-use Rattle.validator.specs.declared.Answer.TheVariants.{Accepted, Breached, Unreadable, ShortIndex, ShortMessage}
-use Rattle.validator.specs.Results.{accepted, breach, Result, refused, checked, result_of}
+use Rattle.validator.specs.declared.Verdict.TheVariants.{Accepted, Breached}
+use Rattle.validator.specs.declared.CheckRefusal.TheVariants.{Unreadable, ShortIndex, ShortMessage}
+use Rattle.validator.specs.Results.{accepted, breach, Result, refused, checked, Answer, result_of}
 
 -- the rules by their numbers
 rules : List Rule
@@ -20,9 +21,9 @@ rule_of n = get_or rules n FunctionDivertedTo
 
 -- the answer with a result
 answer_of : Result → Answer
-answer_of (refused n) = get_or (by_number Unreadable ShortIndex (ShortIndex ∷ ShortMessage ∷ [])) n ShortIndex
-answer_of (checked accepted n k) = Accepted n
-answer_of (checked (breach rule place names) n k) = Breached (record { rule = rule_of rule; place = place; first = names.0; second = names.1; entries = n; message = k })
+answer_of (refused n) = Err (get_or (by_number Unreadable ShortIndex (ShortIndex ∷ ShortMessage ∷ [])) n ShortIndex)
+answer_of (checked accepted n k) = Ok (Accepted n)
+answer_of (checked (breach rule place names) n k) = Ok (Breached (record { rule = rule_of rule; place = place; first = names.0; second = names.1; entries = n; message = k }))
 
 rule-back : (r : Rule) → rule_of (number r) ≡ r
 unfolding rules rule_of
@@ -44,11 +45,11 @@ rule-back VariableForbidden = refl
 
 back : (a : Answer) → answer_of (result_of a) ≡ a
 unfolding answer_of by_number result_of
-back (Accepted n) = refl
-back (Breached b) = ap (λ (r : Rule). Breached (record { rule = r; place = b.place; first = b.first; second = b.second; entries = b.entries; message = b.message })) (rule-back b.rule)
-back (Unreadable r) = refusal-at Unreadable ShortIndex (ShortIndex ∷ ShortMessage ∷ []) r
-back ShortIndex = refl
-back ShortMessage = refl
+back (Ok (Accepted n)) = refl
+back (Ok (Breached b)) = ap (λ (r : Rule). Ok (Breached (record { rule = r; place = b.place; first = b.first; second = b.second; entries = b.entries; message = b.message }))) (rule-back b.rule)
+back (Err (Unreadable r)) = ap Err (refusal-at Unreadable ShortIndex (ShortIndex ∷ ShortMessage ∷ []) r)
+back (Err ShortIndex) = refl
+back (Err ShortMessage) = refl
 
 pub determined : (a b : Answer) → result_of a ≡ result_of b → a ≡ b
 determined a b e = sym (back a) ∙ ap answer_of e ∙ back b

@@ -26,8 +26,7 @@ use Rattle.symbols.specs.Numbers.{absent, numbers}
 use Rattle.rules.specs.Rules.{broken, known, here}
 use Rattle.rules.specs.Steps.{over, stitch_runs, flow_runs, runs, breaches, verdict}
 use Rattle.messages.specs.Messages.{message}
-use Rattle.validator.specs.declared.Answer.{Answer}
-use Rattle.validator.specs.Results.{accepted, breach, Result, refused, checked}
+use Rattle.validator.specs.Results.{accepted, breach, Result, refused, checked, Answer}
 use Rattle.validator.specs.Check.{judged_of, text_of, Report, story_report, report_at, report_of}
 use Rattle.validator.specs.Checked.{Reported, Checked}
 

@@ -1,23 +1,25 @@
 -- 01's impostors, refuted: on a small file, with buffers that are long enough, the wrong answer does not meet the contract of a check. Assumes nothing.
+use Rattle.std.specs.Prelude.{Result}
+use Rattle.fields.specs.declared.Refusal.{Refusal}
+use Rattle.story.specs.declared.Sections.{Sections}
 use mathlib.Core.Path.{◌≡◌, refl, ◌∙◌, ap}
 use mathlib.Core.List.{List, [], ◌∷◌, ◌++◌, map}
 use Prim.Native.Nat.{ℕ, ◌≤◌}
 use native.Mathlib.Omega.{arith}
 use lib.ListN.{length, get_or}
+use Rattle.std.proofs.Common.{Ok, Err}
 use borrow.Author.Tests.{le-ltb}
 use Rattle.fields.specs.declared.Refusal.TheVariants.{Short}
 use Rattle.fields.specs.Refusals.{refusal_number}
 use Rattle.names.specs.Words.{Bytes}
 use Rattle.names.specs.Text.{ascii}
 use Rattle.records.specs.Buffers.{overlay}
-use Rattle.story.specs.declared.Opened.{Opened}
-use Rattle.story.specs.declared.Opened.TheVariants as opened
 use Rattle.story.specs.File.{read_of}
 use Rattle.symbols.specs.Numbers.{absent, index_room}
-use Rattle.validator.specs.declared.Answer.{Answer}
-use Rattle.validator.specs.declared.Answer.TheVariants.{Accepted, Breached, Unreadable}
+use Rattle.validator.specs.declared.Verdict.TheVariants.{Accepted, Breached}
+use Rattle.validator.specs.declared.CheckRefusal.TheVariants.{Unreadable}
 use Rattle.validator.specs.declared.Breach.{Breach}
-use Rattle.validator.specs.Results.{accepted, breach, checked, result_of}
+use Rattle.validator.specs.Results.{accepted, breach, checked, Answer, result_of}
 use Rattle.validator.specs.Check.{Report, refusing, report_at, report_of}
 use Rattle.validator.specs.Checked.{Reported, Checked}
 use Rattle.validator.proofs.Examples.{hex, Row, row, reported, table, examples}
@@ -28,10 +30,10 @@ pub record Room (file index message : List ℕ) : Type 0 where
   pub message-room : 640 ≤ length message
 
 -- buffers that are longer than the file asks for change nothing in what is reported
-longer : (o : Opened) (file : List ℕ) (i j m n : ℕ) → index_room file ≤ i → index_room file ≤ j → 640 ≤ m → 640 ≤ n → report_at o file i m ≡ report_at o file j n
+longer : (o : Result Sections Refusal) (file : List ℕ) (i j m n : ℕ) → index_room file ≤ i → index_room file ≤ j → 640 ≤ m → 640 ≤ n → report_at o file i m ≡ report_at o file j n
 unfolding report_at
-longer (opened.Refused r) file i j m n a b c d = refl
-longer (opened.At s) file i j m n a b c d = rw (le-ltb i (index_room file) a, le-ltb j (index_room file) b, le-ltb m 640 c, le-ltb n 640 d)
+longer (Err r) file i j m n a b c d = refl
+longer (Ok s) file i j m n a b c d = rw (le-ltb i (index_room file) a, le-ltb j (index_room file) b, le-ltb m 640 c, le-ltb n 640 d)
 
 -- the row of the table with the number, from 0: reported, and expected
 abbrev row_reported : ℕ → Report
@@ -69,13 +71,13 @@ module _ {file index message : List ℕ} {r : Answer} {index' message' : List �
 pub record Impostors : Type 0 where
   -- one accepting all stories; it accepts a divert to nowhere
   pub accepting-all : (index message index' message' : List ℕ) (n : ℕ) → Room lost_divert index message
-      → Checked lost_divert index message (Accepted n) index' message' → ⊥
+      → Checked lost_divert index message (Ok (Accepted n)) index' message' → ⊥
   -- one answering refusal 4 for all; it refuses the empty story
   pub refusing-all : (index message index' message' : List ℕ) → Room empty_story index message
-      → Checked empty_story index message (Unreadable Short) index' message' → ⊥
+      → Checked empty_story index message (Err (Unreadable Short)) index' message' → ⊥
   -- one naming the same breach always, whichever it is; it names it in the empty story
   pub same-breach-always : (b : Breach) (index message index' message' : List ℕ) → Room empty_story index message
-      → Checked empty_story index message (Breached b) index' message' → ⊥
+      → Checked empty_story index message (Ok (Breached b)) index' message' → ⊥
   -- one leaving the index as it was, which does not begin with the number for none by chance
   pub index-left-blank : (r : Answer) (index message message' : List ℕ) → (get_or index 0 0 ≡ absent → ⊥) → Room global_story index message
       → Checked global_story index message r index message' → ⊥
@@ -84,10 +86,10 @@ pub record Impostors : Type 0 where
       → Checked lost_divert index message r index' message → ⊥
   -- one walking the root and taking the flows as read; it accepts a knot in breach
   pub flows-taken-as-read : (index message index' message' : List ℕ) (n : ℕ) → Room broken_knot index message
-      → Checked broken_knot index message (Accepted n) index' message' → ⊥
+      → Checked broken_knot index message (Ok (Accepted n)) index' message' → ⊥
   -- one with an invented entry count; the empty story has none
   pub invented-count : (index message index' message' : List ℕ) (n : ℕ) → (n ≡ 0 → ⊥) → Room empty_story index message
-      → Checked empty_story index message (Accepted n) index' message' → ⊥
+      → Checked empty_story index message (Ok (Accepted n)) index' message' → ⊥
 
 -- the reports of the four files, with buffers of exactly the room
 pub empty-report : report_of empty_story 0 640 ≡ record { result = checked accepted 0 0; numbers = []; text = ascii "" }

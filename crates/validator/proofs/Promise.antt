@@ -1,4 +1,5 @@
 -- What is as reported keeps the whole promise: refusals write nothing, acceptance no message, and what is judged is right. Assumes nothing.
+use Rattle.std.specs.Prelude.{Result, Ok}
 use mathlib.Core.Path.{◌≡◌, refl, sym, ◌∙◌, ap}
 use mathlib.Core.Bool.{Bool, true, false}
 use mathlib.Core.List.{List, []}
@@ -7,21 +8,19 @@ use Prim.Native.Nat.{ℕ, ◌-◌, ◌*◌, ◌≤◌}
 use native.Mathlib.Omega.{arith}
 use lib.Dec.{ltb}
 use lib.ListN.{length, length-append}
+use Rattle.std.proofs.Common.{Err}
 use Rattle.fields.specs.declared.Refusal.{Refusal}
 use Rattle.fields.specs.Bytes.{pick}
 use Rattle.records.specs.Buffers.{overlay}
 use Rattle.story.specs.declared.Sections.{Sections}
-use Rattle.story.specs.declared.Opened.{Opened}
-use Rattle.story.specs.declared.Opened.TheVariants as opened
 use Rattle.story.specs.Story.{Story}
 use Rattle.story.specs.File.{read_of, story_in}
 use Rattle.rules.specs.Steps.{Breach, verdict}
 use Rattle.rules.specs.Reader.{Readable, story_at, story_of}
 use Rattle.rules.proofs.Least.{Least}
 use Rattle.rules.proofs.FileDemand.{file-demand3}
-use Rattle.validator.specs.declared.Answer.{Answer}
-use Rattle.validator.specs.declared.Answer.TheVariants.{Unreadable}
-use Rattle.validator.specs.Results.{Judged, accepted, breach, refused, checked, result_of}
+use Rattle.validator.specs.declared.CheckRefusal.TheVariants.{Unreadable}
+use Rattle.validator.specs.Results.{Judged, accepted, breach, refused, checked, Answer, result_of}
 use Rattle.validator.specs.Check.{judged_of, text_of, Report, refusing, story_report, report_at, report_of}
 use Rattle.validator.specs.Checked.{Reported, FirstBreach, Right, Checked}
 
@@ -51,24 +50,24 @@ module _ (file : List ℕ) (s : Story) where
 
 module _ (file : List ℕ) (index message : ℕ) where
   -- a refusal reports nothing more
-  refused-report : (o : Opened) (n : ℕ) → (report_at o file index message).result ≡ refused n
+  refused-report : (o : Result Sections Refusal) (n : ℕ) → (report_at o file index message).result ≡ refused n
       → ((report_at o file index message).numbers ≡ []) × ((report_at o file index message).text ≡ [])
   unfolding report_at
-  refused-report (opened.Refused r) n e = (refl, refl)
-  refused-report (opened.At c) n e = tested-refused file (story_in c file) (ltb index (3 * (length file - 20))) (ltb message 640) n e
+  refused-report (Err r) n e = (refl, refl)
+  refused-report (Ok c) n e = tested-refused file (story_in c file) (ltb index (3 * (length file - 20))) (ltb message 640) n e
 
-  record Judging (o : Opened) (j : Judged) (size : ℕ) : Type 0 where
+  record Judging (o : Result Sections Refusal) (j : Judged) (size : ℕ) : Type 0 where
     sections : Sections
-    opens : o ≡ opened.At sections
+    opens : o ≡ Ok sections
     judges : j ≡ judged_of (verdict (story_at o file))
     says : (report_at o file index message).text ≡ text_of file (verdict (story_at o file))
     size_is : size ≡ length (text_of file (verdict (story_at o file)))
 
   -- what is judged is the story in a readable file
-  judged-report : (o : Opened) (j : Judged) (n k : ℕ) → (report_at o file index message).result ≡ checked j n k → Judging o j k
+  judged-report : (o : Result Sections Refusal) (j : Judged) (n k : ℕ) → (report_at o file index message).result ≡ checked j n k → Judging o j k
   unfolding report_at story_at
-  judged-report (opened.Refused r) j n k e = let z : ◌≡◌ {A = ℕ} 0 1 = cc in absurd (omega arith)
-  judged-report (opened.At c) j n k e =
+  judged-report (Err r) j n k e = let z : ◌≡◌ {A = ℕ} 0 1 = cc in absurd (omega arith)
+  judged-report (Ok c) j n k e =
       let t = tested-judged file (story_in c file) (ltb index (3 * (length file - 20))) (ltb message 640) j n k e in
       record { sections = c; opens = refl; judges = t.0; says = t.1; size_is = t.2 }
 
@@ -143,13 +142,13 @@ judges {file} {index} {message} {j = j} {n = n} {k = k} p e =
     record { readable = record { sections = q.sections; told = q.opens }; verdict-is = q.judges }
 
 -- refusals 1 to 6
-pub unreadable : {r : Refusal} {file index message : List ℕ} → read_of file ≡ opened.Refused r → Checked file index message (Unreadable r) index message
+pub unreadable : {r : Refusal} {file index message : List ℕ} → read_of file ≡ Err r → Checked file index message (Err (Unreadable r)) index message
 unfolding report_of report_at result_of overlay
 unreadable e = promised (rw e (record { result = refl; index_is = refl; message_is = refl }))
 
 -- a readable file
-pub opens : {c : Sections} {file index message : List ℕ} {a : Answer} {index' message' : List ℕ} → read_of file ≡ opened.At c
-    → Reported (report_at (opened.At c) file (length index) (length message)) index message a index' message'
+pub opens : {c : Sections} {file index message : List ℕ} {a : Answer} {index' message' : List ℕ} → read_of file ≡ Ok c
+    → Reported (report_at (Ok c) file (length index) (length message)) index message a index' message'
     → Checked file index message a index' message'
 unfolding report_of
 opens e p = promised (rw e p)

@@ -1,14 +1,15 @@
 -- What the parts of a check leave is as reported: the index, the verdict with its text, and the tests on the buffers. Assumes nothing.
+use Rattle.std.specs.Prelude.{Option, Some, None}
 use mathlib.Core.Path.{◌≡◌, refl, sym, ◌∙◌, ap}
 use mathlib.Core.List.{List}
-use mathlib.Core.Option.{Option, none, some}
+use mathlib.Core.Option.{Option as Maybe, none, some}
 use Prim.Native.Nat.{ℕ, ◌-◌, ◌*◌, ◌≤◌, ◌<◌}
 use native.Mathlib.Omega.{arith}
 use lib.ListN.{length}
+use Rattle.std.proofs.Common.{Ok, Err}
 use borrow.Author.Tests.{lt-ltb, le-ltb}
 use Rattle.records.specs.Buffers.{overlay}
 use Rattle.story.specs.declared.Sections.{Sections}
-use Rattle.story.specs.declared.Opened.TheVariants as opened
 use Rattle.story.specs.File.{read_of, story_in}
 use Rattle.story.proofs.Readable.{readable}
 use Rattle.story.proofs.Plain.{story-unlabelled}
@@ -20,14 +21,13 @@ use Rattle.symbols.proofs.ReadBack.{index_read}
 use Rattle.symbols.proofs.Plain.{spellings-plain}
 use Rattle.rules.specs.Steps.{Breach, verdict}
 use Rattle.context.specs.declared.BreachAt.{BreachAt}
-use Rattle.context.specs.declared.Found.{Found}
-use Rattle.context.specs.declared.Found.TheVariants as found
 use Rattle.tables.specs.Functions.{Functions}
 use Rattle.checks.specs.Context.{Ready}
 use Rattle.context.specs.Found.{found_of, breach_at}
-use Rattle.validator.specs.declared.Answer.{Answer}
-use Rattle.validator.specs.declared.Answer.TheVariants.{Accepted, ShortIndex, ShortMessage}
-use Rattle.validator.specs.Results.{result_of}
+use Rattle.validator.specs.declared.Breach.{Breach as Answered}
+use Rattle.validator.specs.declared.Verdict.TheVariants.{Accepted, Breached}
+use Rattle.validator.specs.declared.CheckRefusal.TheVariants.{ShortIndex, ShortMessage}
+use Rattle.validator.specs.Results.{Answer, result_of}
 use Rattle.validator.specs.Answers.{Told}
 use Rattle.validator.specs.Check.{judged_of, text_of, story_report, report_at}
 use Rattle.validator.specs.Checked.{Reported}
@@ -39,7 +39,7 @@ pub record Written (file : List ℕ) (c : Sections) (before after : List ℕ) (n
   pub entries-are : n ≡ length (entries (story_in c file))
   pub index_is : after ≡ index_of (story_in c file) before
 
-module _ (file : List ℕ) {c : Sections} (good : read_of file ≡ opened.At c) where
+module _ (file : List ℕ) {c : Sections} (good : read_of file ≡ Ok c) where
   -- the place of the trailer
   pub trailer-at : (c.end ≡ length file - 20) × (c.end ≤ 1048556)
   trailer-at =
@@ -61,19 +61,19 @@ module _ (file : List ℕ) {c : Sections} (good : read_of file ≡ opened.At c) 
 
 module _ {file : List ℕ} {c : Sections} {before after : List ℕ} {n : ℕ} (w : Written file c before after n) where
   -- the verdict is none
-  clear : (v : Option Breach) (message : List ℕ) → verdict (story_in c file) ≡ v → found_of v ≡ found.Clear
-      → Reported (story_report file (story_in c file)) before message (Accepted n) after message
+  clear : (v : Maybe Breach) (message : List ℕ) → verdict (story_in c file) ≡ v → found_of v ≡ None
+      → Reported (story_report file (story_in c file)) before message (Ok (Accepted n)) after message
   unfolding found_of story_report judged_of text_of result_of index_of placed overlay
   clear none message e f = record { result = rw (e, w.entries-are); index_is = w.index_is; message_is = rw e }
   clear (some b) message e f = let z : ◌≡◌ {A = ℕ} 0 1 = cc in absurd (omega arith)
 
-  pub story-accepted : {r : Found} (message : List ℕ) → r ≡ found_of (verdict (story_in c file)) → r ≡ found.Clear
-      → Reported (story_report file (story_in c file)) before message (Accepted n) after message
+  pub story-accepted : {r : Option BreachAt} (message : List ℕ) → r ≡ found_of (verdict (story_in c file)) → r ≡ None
+      → Reported (story_report file (story_in c file)) before message (Ok (Accepted n)) after message
   story-accepted message e f = clear (verdict (story_in c file)) message refl (sym e ∙ f)
 
-  breached : (v : Option Breach) {b : BreachAt} {message message' : List ℕ} {a : Answer} → verdict (story_in c file) ≡ v → found_of v ≡ found.Breach b
-      → Told file b.rule b.place b.first b.second n message a message'
-      → Reported (story_report file (story_in c file)) before message a after message'
+  breached : (v : Maybe Breach) {b : BreachAt} {message message' : List ℕ} {a : Answered} → verdict (story_in c file) ≡ v → found_of v ≡ Some b
+      → Told file b n message a message'
+      → Reported (story_report file (story_in c file)) before message (Ok (Breached a)) after message'
   unfolding found_of story_report judged_of text_of result_of index_of placed
   breached none e f t = let z : ◌≡◌ {A = ℕ} 0 1 = cc in absurd (omega arith)
   breached (some x) {b} e f t =
@@ -81,22 +81,22 @@ module _ {file : List ℕ} {c : Sections} {before after : List ℕ} {n : ℕ} (w
       let u = rw (← same) at t in
       record { result = rw (u.answer, e, w.entries-are); index_is = w.index_is; message_is = rw e u.written }
 
-  pub story-breached : {r : Found} {b : BreachAt} {message message' : List ℕ} {a : Answer} → r ≡ found_of (verdict (story_in c file)) → r ≡ found.Breach b
-      → Told file b.rule b.place b.first b.second n message a message'
-      → Reported (story_report file (story_in c file)) before message a after message'
+  pub story-breached : {r : Option BreachAt} {b : BreachAt} {message message' : List ℕ} {a : Answered} → r ≡ found_of (verdict (story_in c file)) → r ≡ Some b
+      → Told file b n message a message'
+      → Reported (story_report file (story_in c file)) before message (Ok (Breached a)) after message'
   story-breached e f t = breached (verdict (story_in c file)) refl (sym e ∙ f) t
 
 -- 3. The tests on the buffers
 
-module _ (file : List ℕ) {c : Sections} (good : read_of file ≡ opened.At c) (index message : List ℕ) where
-  pub short-index : length index < 3 * c.end → Reported (report_at (opened.At c) file (length index) (length message)) index message ShortIndex index message
+module _ (file : List ℕ) {c : Sections} (good : read_of file ≡ Ok c) (index message : List ℕ) where
+  pub short-index : length index < 3 * c.end → Reported (report_at (Ok c) file (length index) (length message)) index message (Err ShortIndex) index message
   unfolding report_at result_of overlay
   short-index h =
       rw (lt-ltb (length index) (3 * (length file - 20)) (omega (arith, (trailer-at file good).0)))
       (record { result = refl; index_is = refl; message_is = refl })
 
   pub short-message : 3 * c.end ≤ length index → length message < 640
-      → Reported (report_at (opened.At c) file (length index) (length message)) index message ShortMessage index message
+      → Reported (report_at (Ok c) file (length index) (length message)) index message (Err ShortMessage) index message
   unfolding report_at result_of overlay
   short-message h k =
       rw (le-ltb (length index) (3 * (length file - 20)) (omega (arith, (trailer-at file good).0)), lt-ltb (length message) 640 k)
@@ -104,7 +104,7 @@ module _ (file : List ℕ) {c : Sections} (good : read_of file ≡ opened.At c) 
 
   pub long-enough : {a : Answer} {index' message' : List ℕ} → 3 * c.end ≤ length index → 640 ≤ length message
       → Reported (story_report file (story_in c file)) index message a index' message'
-      → Reported (report_at (opened.At c) file (length index) (length message)) index message a index' message'
+      → Reported (report_at (Ok c) file (length index) (length message)) index message a index' message'
   unfolding report_at
   long-enough h k p =
       rw (le-ltb (length index) (3 * (length file - 20)) (omega (arith, (trailer-at file good).0)), le-ltb (length message) 640 k) p

@@ -1,12 +1,13 @@
 -- THE CHECK, for any bytes and any buffers: its result, and what it leaves in the index and in the message buffer.
-use Rattle.std.specs.Prelude.{ℕ, List, [], map, length, ltb}
+use Rattle.std.specs.Prelude as std
+use Rattle.fields.specs.declared.Refusal.{Refusal}
+use Rattle.story.specs.declared.Sections.{Sections}
+use Rattle.std.specs.Prelude.{ℕ, List, [], map, length, ltb, Ok, Err}
 use Rattle.std.proofs.Math.Option.{Option, none, some}
 use Rattle.fields.specs.Bytes.{pick}
 use Rattle.fields.specs.Refusals.{refusal_number}
 use Rattle.names.specs.Words.{Bytes}
 use Rattle.names.specs.Counted.{name_at}
-use Rattle.story.specs.declared.Opened.{Opened}
-use Rattle.story.specs.declared.Opened.TheVariants as opened
 use Rattle.story.specs.Story.{Story}
 use Rattle.story.specs.File.{read_of, story_in}
 use Rattle.symbols.specs.Index.{entries}
@@ -45,9 +46,9 @@ story_report file s = record {
 }
 
 -- refusals 1 to 6 by reading; 7, the index is shorter than its room, 3 × (L-20); 8, the message buffer is under 640
-unfoldable pub report_at : Opened → List ℕ → ℕ → ℕ → Report
-report_at (opened.Refused r) file index message = refusing (refusal_number r)
-report_at (opened.At c) file index message =
+unfoldable pub report_at : std.Result Sections Refusal → List ℕ → ℕ → ℕ → Report
+report_at (Err r) file index message = refusing (refusal_number r)
+report_at (Ok c) file index message =
     pick (ltb index (index_room file)) (refusing 7)
     (pick (ltb message 640) (refusing 8) (story_report file (story_in c file)))
 

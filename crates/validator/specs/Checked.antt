@@ -6,8 +6,7 @@ use Rattle.rules.specs.Rules.{number}
 use Rattle.rules.specs.Steps.{Breach, Later}
 use Rattle.rules.specs.Meaning.{Stands}
 use Rattle.rules.specs.Reader.{story_of}
-use Rattle.validator.specs.declared.Answer.{Answer}
-use Rattle.validator.specs.Results.{Judged, accepted, breach, refused, checked, result_of}
+use Rattle.validator.specs.Results.{Judged, accepted, breach, refused, checked, Answer, result_of}
 use Rattle.validator.specs.Check.{Report, report_of}
 
 -- an answer and two buffers are as reported: numbers and text at the buffers' starts, the rest as it was

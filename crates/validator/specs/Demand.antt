@@ -3,8 +3,7 @@ use Rattle.std.specs.Prelude.{ℕ, ◌≤◌, ◌≡◌, List, ◌↔◌, length
 use Rattle.symbols.specs.Numbers.{index_room}
 use Rattle.rules.specs.Files.{AlikeFiles}
 use Rattle.rules.specs.Reader.{Readable, story_of, parts_of}
-use Rattle.validator.specs.declared.Answer.{Answer}
-use Rattle.validator.specs.Results.{Judged, accepted, checked, result_of}
+use Rattle.validator.specs.Results.{Judged, accepted, checked, Answer, result_of}
 use Rattle.validator.specs.Checked.{Right}
 
 -- what a way of checking returned: file, index, message buffer, answer, and both buffers afterwards

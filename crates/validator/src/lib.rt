@@ -1,22 +1,23 @@
 // The check of a story file: refusals, index, rules and text.
 #![tactic(auto)]
 
-ghost use Rattle.std.specs.Prelude.{◌≤◌, ◌*◌, length};
-ghost use Rattle.story.specs.declared.Opened.TheVariants as Opened;
+ghost use Rattle.std.specs.Prelude.{◌≡◌, ◌+◌, ◌≤◌, ◌*◌, length};
 ghost use Rattle.story.specs.File.{story_in};
 ghost use Rattle.items.specs.Bodies.{Kept};
+ghost use Rattle.validator.specs.declared.CheckRefusal.TheVariants.{Unreadable};
+ghost use Rattle.validator.specs.Results.{number_of};
 ghost use Rattle.validator.specs.Answers.{Told};
 ghost use Rattle.validator.specs.Check.{story_report, report_at};
 ghost use Rattle.validator.specs.Checked.{Reported, Checked};
 
-use context::Found;
+use context::BreachAt;
 use context::context::validate_story;
-use fields::Refusal;
+use fields::{Refusal, refusal_number};
 use messages::write_message;
 use names::name_at;
 use rules::Rule;
 use story::trailer::read_trailer;
-use story::{Opened, Sections, StoryRead, read};
+use story::{Sections, read};
 use symbols::entries::write_index;
 use tables::functions::put_functions;
 use tables::hints::put_hints;
@@ -32,69 +33,103 @@ pub struct Breach {
     pub message: usize,
 }
 
-// Accepted, with the number of entries; a breach; the reader's refusal, 1 to 6; refusals 7 and 8.
+// What a check finds in a readable file: it is accepted, with the number of entries; or a breach.
 #[derive(Clone, Copy)]
-pub enum Answer {
+pub enum Verdict {
     Accepted(usize),
     Breached(Breach),
+}
+
+// Why a check is refused: the reader's refusal, 1 to 6; 7, the index is too short; 8, the message buffer is.
+#[derive(Clone, Copy)]
+pub enum CheckRefusal {
     Unreadable(Refusal),
     ShortIndex,
     ShortMessage,
 }
 
-// Writes the text of a breach, with the names that stand at the two places, and answers the breach.
-fn write_breach(
-    file: &[u8],
-    rule: Rule,
-    place: usize,
-    first: usize,
-    second: usize,
-    entries: usize,
-    message: &mut [u8],
-) -> Answer
-    requires { 640 ≤ length message.old }
-    ensures { Told file.now rule place first second entries message.old result message.new }
-{
-    let size = write_message(rule, name_at(file, first), name_at(file, second), message);
-    Answer::Breached(Breach {
-        rule,
-        place,
-        first,
-        second,
-        entries,
-        message: size,
-    })
+impl CheckRefusal {
+    // The number of the refusal.
+    pub fn number(self) -> usize
+        ensures { result ≡ number_of self }
+    {
+        match self {
+            CheckRefusal::Unreadable(r) => refusal_number(r),
+            CheckRefusal::ShortIndex => 7,
+            CheckRefusal::ShortMessage => 8,
+        }
+    }
 }
 
-// Writes the index, runs the twenty steps, and answers; where there is a breach, writes its text. Works in the last four buffers.
+impl From<Refusal> for CheckRefusal {
+    ghost from_gives = { λ r e. e ≡ Unreadable r };
+
+    // The reader's refusal is the check's.
+    fn from(r: Refusal) -> CheckRefusal {
+        CheckRefusal::Unreadable(r)
+    }
+}
+
+// The buffers that the steps work in.
+#[derive(Drop)]
+struct Scratch<'a> {
+    functions: &'a mut [u32],
+    hints: &'a mut [u32],
+    declared: &'a mut [u8],
+    gathers: &'a mut [u8],
+}
+
+// Writes the text of a breach, with the names that stand at its two places, and answers the breach.
+fn write_breach(file: &[u8], b: BreachAt, entries: usize, message: &mut [u8]) -> Breach
+    requires { 640 ≤ length message.old }
+    ensures { Told file.now b entries message.old result message.new }
+{
+    let rule = b.rule;
+    let size = write_message(
+        rule,
+        name_at(file, b.first),
+        name_at(file, b.second),
+        message,
+    );
+    Breach {
+        rule,
+        place: b.place,
+        first: b.first,
+        second: b.second,
+        entries,
+        message: size,
+    }
+}
+
+// Writes the index, runs the twenty steps, and answers; where there is a breach, writes its text.
 fn check_story(
     file: &[u8],
     c: Sections,
     kept: &[u32],
     index: &mut [u32],
     message: &mut [u8],
-    functions: &mut [u32],
-    hints: &mut [u32],
-    declared: &mut [u8],
-    gathers: &mut [u8],
-) -> Answer
+    scratch: Scratch,
+) -> Verdict
     requires kept { Kept file.now c kept.now }
     requires end_in_bounds { (3 * c.end ≤ length index.old) × (640 ≤ length message.old) }
-    ensures { Reported (story_report file.now (story_in c file.now)) index.old message.old result index.new message.new }
+    ensures { Reported (story_report file.now (story_in c file.now)) index.old message.old (Ok result) index.new message.new }
 {
+    let Scratch {
+        functions,
+        hints,
+        declared,
+        gathers,
+    } = scratch;
     let entries = write_index(file, c, kept, index);
     put_functions(file, c, functions);
     put_hints(file, index, entries, hints);
     let found = validate_story(
         file, c, kept, index, entries, functions, hints, declared, gathers,
     );
-    match found {
-        Found::Clear => Answer::Accepted(entries),
-        Found::Breach(b) => {
-            let rule = b.rule;
-            write_breach(file, rule, b.place, b.first, b.second, entries, message)
-        }
-    }
+    let Some(b) = found else {
+        return Verdict::Accepted(entries);
+    };
+    Verdict::Breached(write_breach(file, b, entries, message))
 }
 
 // The check of a readable file, by the numbers kept of it: refusals 7 and 8, and then its story.
@@ -104,23 +139,18 @@ fn check_readable(
     kept: &[u32],
     index: &mut [u32],
     message: &mut [u8],
-    functions: &mut [u32],
-    hints: &mut [u32],
-    declared: &mut [u8],
-    gathers: &mut [u8],
-) -> Answer
+    scratch: Scratch,
+) -> Result<Verdict, CheckRefusal>
     requires { Kept file.now c kept.now }
-    ensures { Reported (report_at (Opened.At c) file.now (length index.old) (length message.old)) index.old message.old result index.new message.new }
+    ensures { Reported (report_at (Ok c) file.now (length index.old) (length message.old)) index.old message.old result index.new message.new }
 {
     if index.len() < 3 * c.end {
-        return Answer::ShortIndex;
+        return Err(CheckRefusal::ShortIndex);
     }
     if message.len() < 640 {
-        return Answer::ShortMessage;
+        return Err(CheckRefusal::ShortMessage);
     }
-    check_story(
-        file, c, kept, index, message, functions, hints, declared, gathers,
-    )
+    Ok(check_story(file, c, kept, index, message, scratch))
 }
 
 // The check of a file, in buffers that are lent for it. The first is for the numbers kept, of which a file has at most one for six bytes.
@@ -129,104 +159,49 @@ fn check_in(
     index: &mut [u32],
     message: &mut [u8],
     items: &mut [u32],
-    functions: &mut [u32],
-    hints: &mut [u32],
-    declared: &mut [u8],
-    gathers: &mut [u8],
-) -> Answer
+    scratch: Scratch,
+) -> Result<Verdict, CheckRefusal>
     requires { length file.now ≤ 1048576 → length file.now ≤ 6 * length items.old }
     ensures { Checked file.now index.old message.old result index.new message.new }
 {
-    let answer = read(file, items);
-    match answer {
-        StoryRead::Refused(r) => Answer::Unreadable(r),
-        StoryRead::At(c, n, _) => {
-            let kept = &items[..n];
-            check_readable(
-                file, c, kept, index, message, functions, hints, declared, gathers,
-            )
-        }
-    }
+    let (c, n, _) = read(file, items)?;
+    check_readable(file, c, &items[..n], index, message, scratch)
 }
 
-// A file of at most 4,096 bytes, in buffers of some 9 KB.
-fn check_short(file: &[u8], index: &mut [u32], message: &mut [u8]) -> Answer
-    requires { length file.now ≤ 4096 }
+// The check of a file, in buffers of these lengths: of 9 KB for a file of 4,096 bytes, of 126 KB for 65,536 bytes, of 1.5 MB for the longest.
+fn check_sized<
+    const ITEMS: usize,
+    const FUNCTIONS: usize,
+    const HINTS: usize,
+    const DECLARED: usize,
+    const GATHERS: usize,
+>(file: &[u8], index: &mut [u32], message: &mut [u8]) -> Result<Verdict, CheckRefusal>
+    requires in_memory { ITEMS + FUNCTIONS + HINTS + DECLARED + GATHERS ≤ 1048576 }
+    requires items_enough { length file.now ≤ 1048576 → length file.now ≤ 6 * ITEMS }
     ensures { Checked file.now index.old message.old result index.new message.new }
 {
-    let mut items = [0u32; 683];
-    let mut functions = [0u32; 256];
-    let mut hints = [0u32; 1024];
-    let mut declared = [0u8; 256];
-    let mut gathers = [0u8; 1024];
-    check_in(
-        file,
-        index,
-        message,
-        &mut items,
-        &mut functions,
-        &mut hints,
-        &mut declared,
-        &mut gathers,
-    )
-}
-
-// A file of at most 65,536 bytes, in buffers of some 126 KB.
-fn check_middling(file: &[u8], index: &mut [u32], message: &mut [u8]) -> Answer
-    requires { length file.now ≤ 65536 }
-    ensures { Checked file.now index.old message.old result index.new message.new }
-{
-    let mut items = [0u32; 10923];
-    let mut functions = [0u32; 8192];
-    let mut hints = [0u32; 8192];
-    let mut declared = [0u8; 8192];
-    let mut gathers = [0u8; 8192];
-    check_in(
-        file,
-        index,
-        message,
-        &mut items,
-        &mut functions,
-        &mut hints,
-        &mut declared,
-        &mut gathers,
-    )
-}
-
-// A longer file, in buffers of some 1.5 MB.
-fn check_long(file: &[u8], index: &mut [u32], message: &mut [u8]) -> Answer
-    ensures { Checked file.now index.old message.old result index.new message.new }
-{
-    let mut items = [0u32; 174763];
-    let mut functions = [0u32; 65536];
-    let mut hints = [0u32; 98304];
-    let mut declared = [0u8; 32768];
-    let mut gathers = [0u8; 131072];
-    check_in(
-        file,
-        index,
-        message,
-        &mut items,
-        &mut functions,
-        &mut hints,
-        &mut declared,
-        &mut gathers,
-    )
+    let mut items = [0u32; ITEMS];
+    let mut functions = [0u32; FUNCTIONS];
+    let mut hints = [0u32; HINTS];
+    let mut declared = [0u8; DECLARED];
+    let mut gathers = [0u8; GATHERS];
+    let scratch = Scratch {
+        functions: &mut functions,
+        hints: &mut hints,
+        declared: &mut declared,
+        gathers: &mut gathers,
+    };
+    check_in(file, index, message, &mut items, scratch)
 }
 
 // THE CHECK of a file. The index wants three numbers for each byte before the trailer, the message buffer 640 bytes. The trailer is judged first: no buffers are made for a file that it refuses.
-pub fn check(file: &[u8], index: &mut [u32], message: &mut [u8]) -> Answer
+pub fn check(file: &[u8], index: &mut [u32], message: &mut [u8]) -> Result<Verdict, CheckRefusal>
     ensures { Checked file.now index.old message.old result index.new message.new }
 {
-    let opened = read_trailer(file);
-    if let Opened::Refused(r) = opened {
-        return Answer::Unreadable(r);
+    read_trailer(file)?;
+    match file.len() {
+        ..=4096 => check_sized::<683, 256, 1024, 256, 1024>(file, index, message),
+        4097..=65536 => check_sized::<10923, 8192, 8192, 8192, 8192>(file, index, message),
+        _ => check_sized::<174763, 65536, 98304, 32768, 131072>(file, index, message),
     }
-    if file.len() <= 4096 {
-        return check_short(file, index, message);
-    }
-    if file.len() <= 65536 {
-        return check_middling(file, index, message);
-    }
-    check_long(file, index, message)
 }

@@ -2,11 +2,10 @@
 // A check is three numbers of two bytes (numbers of the index, bytes of the message buffer, bytes of the file) and the file.
 #![tactic(auto)]
 
-use fields::word;
 use host::read_full;
 use lines::check_line;
 use std::io;
-use validator::Answer;
+use validator::Verdict;
 
 // The number for none.
 const NONE: usize = 4294967295;
@@ -16,172 +15,134 @@ const BLANK_NUMBER: u32 = 2779096485;
 
 const BLANK_BYTE: u8 = 165;
 
-// A number of the index as a number of more bits.
-fn wide(n: u32) -> usize {
-    n as usize
+// What a check tells beside its line: its entries, the places of its names, and how many bytes its message has.
+#[derive(Clone, Copy)]
+struct Told {
+    entries: usize,
+    first: Option<usize>,
+    second: Option<usize>,
+    message: usize,
 }
 
-// Writes a space and a number, or a dash for none.
-fn print_number(rt: &impl Print, n: usize) -> io::Result<()> {
-    if n == NONE {
-        return rt.write_all(b" -");
+// A check: how many numbers of the index and bytes of the message buffer it is lent, and its file.
+#[derive(Clone, Copy)]
+struct Check<'a> {
+    numbers: usize,
+    bytes: usize,
+    file: &'a [u8],
+}
+
+// The buffers of a check: the index, the message and the line.
+#[derive(Drop)]
+struct Buffers<'a> {
+    index: &'a mut [u32],
+    message: &'a mut [u8],
+    out: &'a mut [u8],
+}
+
+// The place that a number says, or none.
+fn place(n: usize) -> Option<usize> {
+    Some(n).filter(|n| *n != NONE)
+}
+
+// What a verdict tells.
+fn told_by(verdict: Verdict) -> Told {
+    match verdict {
+        Verdict::Accepted(entries) => Told {
+            entries,
+            first: None,
+            second: None,
+            message: 0,
+        },
+        Verdict::Breached(b) => Told {
+            entries: b.entries,
+            first: place(b.first),
+            second: place(b.second),
+            message: b.message,
+        },
     }
-    rt.write_all(b" ")?;
-    rt.print(n as u64)
 }
 
-// Writes the numbers of the entries.
+// Writes a space and a place, or a dash for none.
+fn print_place(rt: &impl Print, place: Option<usize>) -> io::Result<()> {
+    match place {
+        Some(n) => print!(rt; " {n}"),
+        None => print!(rt; " -"),
+    }
+}
+
+// Writes the numbers of the entries, three of each.
 fn print_index(rt: &impl Print, index: &[u32], entries: usize) -> io::Result<()> {
     if entries == 0 {
         return Ok(());
     }
-    rt.write_all(b"index")?;
-    let mut i = 0;
-    while i < index.len() {
-        if entries <= i / 3 {
-            break;
-        }
-        print_number(rt, wide(index[i]))?;
-        i += 1;
+    print!(rt; "index")?;
+    for n in index.iter().take(entries.saturating_mul(3)) {
+        print_place(rt, place(*n as usize))?;
     }
-    rt.write_all(b"\n")
+    println!(rt; "")
 }
 
-// Puts the blank number everywhere.
-fn blank_numbers(index: &mut [u32]) {
-    let mut i = 0;
-    while i < index.len() {
-        index[i] = BLANK_NUMBER;
-        i += 1;
+impl<'a> Buffers<'a> {
+    // Whether the index behind so many entries and the message buffer behind so many bytes are blank.
+    fn rest_kept(&self, entries: usize, size: usize) -> bool {
+        let mut numbers = self.index.iter().skip(entries.saturating_mul(3));
+        let mut bytes = self.message.iter().skip(size);
+        numbers.all(|n| *n == BLANK_NUMBER) && bytes.all(|b| *b == BLANK_BYTE)
     }
-}
 
-// Puts the blank byte everywhere.
-fn blank_bytes(message: &mut [u8]) {
-    let mut i = 0;
-    while i < message.len() {
-        message[i] = BLANK_BYTE;
-        i += 1;
-    }
-}
-
-// Whether the numbers behind so many entries are blank.
-fn numbers_kept(index: &[u32], entries: usize) -> bool {
-    let mut i = 0;
-    while i < index.len() {
-        if entries <= i / 3 {
-            if index[i] != BLANK_NUMBER {
-                return false;
-            }
-        }
-        i += 1;
-    }
-    true
-}
-
-// Whether the bytes from a place on are blank.
-fn bytes_kept(message: &[u8], from: usize) -> bool {
-    let mut i = 0;
-    while i < message.len() {
-        if from <= i {
-            if message[i] != BLANK_BYTE {
-                return false;
-            }
-        }
-        i += 1;
-    }
-    true
-}
-
-// Writes whether both buffers stay behind so many entries and so many bytes.
-fn print_kept(
-    rt: &impl Print,
-    entries: usize,
-    size: usize,
-    index: &[u32],
-    message: &[u8],
-) -> io::Result<()> {
-    if numbers_kept(index, entries) {
-        if bytes_kept(message, size) {
-            return rt.write_all(b"rest kept\n\n");
+    // Writes whether the rest of the buffers stays.
+    fn print_kept(&self, rt: &impl Print, entries: usize, size: usize) -> io::Result<()> {
+        if self.rest_kept(entries, size) {
+            println!(rt; "rest kept\n")
+        } else {
+            println!(rt; "rest changed\n")
         }
     }
-    rt.write_all(b"rest changed\n\n")
-}
 
-// Writes the numbers of a result that is no refusal, and whether the rest of the buffers stays.
-fn print_result(
-    rt: &impl Print,
-    entries: usize,
-    first: usize,
-    second: usize,
-    size: usize,
-    index: &[u32],
-    message: &[u8],
-) -> io::Result<()> {
-    rt.write_all(b"entries")?;
-    print_number(rt, entries)?;
-    rt.write_all(b"\nnames")?;
-    print_number(rt, first)?;
-    print_number(rt, second)?;
-    rt.write_all(b"\n")?;
-    print_index(rt, index, entries)?;
-    print_kept(rt, entries, size, index, message)
-}
+    // Writes what a check tells beside its line, and whether the rest of the buffers stays.
+    fn print_told(&self, rt: &impl Print, told: Told) -> io::Result<()> {
+        print!(rt; "entries {}\nnames", told.entries)?;
+        print_place(rt, told.first)?;
+        print_place(rt, told.second)?;
+        println!(rt; "")?;
+        print_index(rt, self.index, told.entries)?;
+        self.print_kept(rt, told.entries, told.message)
+    }
 
-// Writes what an answer tells beside its line; a refusal has no numbers.
-fn print_answer(rt: &impl Print, answer: Answer, index: &[u32], message: &[u8]) -> io::Result<()> {
-    match answer {
-        Answer::Accepted(n) => print_result(rt, n, NONE, NONE, 0, index, message),
-        Answer::Breached(b) => {
-            print_result(rt, b.entries, b.first, b.second, b.message, index, message)
+    // Checks a file with blank buffers, and writes all that the check gives.
+    fn replay(&mut self, rt: &impl Print, file: &[u8]) -> io::Result<()> {
+        self.index.fill(BLANK_NUMBER);
+        self.message.fill(BLANK_BYTE);
+        let checked = check_line(file, self.index, self.message, self.out);
+        rt.write_all(&self.out[..checked.length])?;
+        match checked.answer {
+            Ok(verdict) => self.print_told(rt, told_by(verdict)),
+            Err(_) => self.print_kept(rt, 0, 0),
         }
-        Answer::Unreadable(_) => print_kept(rt, 0, 0, index, message),
-        Answer::ShortIndex => print_kept(rt, 0, 0, index, message),
-        Answer::ShortMessage => print_kept(rt, 0, 0, index, message),
     }
 }
 
-// Checks a file with blank buffers, and writes all that the check gives.
-fn replay(
-    rt: &impl Print,
-    file: &[u8],
-    index: &mut [u32],
-    message: &mut [u8],
-    out: &mut [u8],
-) -> io::Result<()> {
-    blank_numbers(index);
-    blank_bytes(message);
-    let checked = check_line(file, index, message, out);
-    let answer = checked.answer;
-    let end = checked.length;
-    rt.write_all(&out[..end])?;
-    print_answer(rt, answer, index, message)
-}
-
-// Replays a check with buffers of these lengths, where the lent ones are as long.
+// Replays a check with so many of the numbers and bytes, where there are so many.
 fn replay_lent(
     rt: &impl Print,
-    file: &[u8],
-    numbers: usize,
-    bytes: usize,
+    check: Check<'_>,
     index: &mut [u32],
     message: &mut [u8],
     out: &mut [u8],
 ) -> io::Result<()> {
-    if index.len() < numbers {
+    let Some(index) = index.get_mut(..check.numbers) else {
         return Ok(());
-    }
-    if message.len() < bytes {
+    };
+    let Some(message) = message.get_mut(..check.bytes) else {
         return Ok(());
-    }
-    replay(
-        rt,
-        file,
-        &mut index[0..numbers],
-        &mut message[0..bytes],
+    };
+    let mut lent = Buffers {
+        index,
+        message,
         out,
-    )
+    };
+    lent.replay(rt, check.file)
 }
 
 // Replays the checks in s, up to one that is cut short.
@@ -192,41 +153,39 @@ fn replay_all(
     message: &mut [u8],
     out: &mut [u8],
 ) -> io::Result<()> {
-    let mut at: usize = 0;
-    while at < s.len() {
-        if s.len() - at < 6 {
+    let mut left = s;
+    while let Some(([a, b, c, d, e, f], behind)) = left.split_first_chunk::<6>() {
+        let Some((file, rest)) = behind.split_at_checked(length(*e, *f)) else {
             break;
-        }
-        let numbers = word(s[at], s[at + 1], 0, 0);
-        let bytes = word(s[at + 2], s[at + 3], 0, 0);
-        let n = word(s[at + 4], s[at + 5], 0, 0);
-        if s.len() - at - 6 < n {
-            break;
-        }
-        let start = at + 6;
-        at = start + n;
-        replay_lent(rt, &s[start..at], numbers, bytes, index, message, out)?;
+        };
+        let check = Check {
+            numbers: length(*a, *b),
+            bytes: length(*c, *d),
+            file,
+        };
+        replay_lent(rt, check, index, message, out)?;
+        left = rest;
     }
     Ok(())
 }
 
-// Replays what is on standard input.
-fn replay_input(
-    rt: &(impl Input + Print),
-    space: &mut [u8],
-    index: &mut [u32],
-    message: &mut [u8],
-    out: &mut [u8],
-) -> io::Result<()> {
-    let n = read_full(&mut rt.reader(), space)?;
-    replay_all(rt, &space[..n], index, message, out)
+// The length in two bytes.
+fn length(low: u8, high: u8) -> usize {
+    u16::from_le_bytes([low, high]) as usize
 }
 
-// Lends the buffers.
+// Replays what is on standard input.
 fn main(rt: HostRuntime) -> io::Result<()> {
     let mut space = [0u8; 131072];
     let mut index = [0u32; 12288];
     let mut message = [0u8; 704];
     let mut out = [0u8; 764];
-    replay_input(&rt, &mut space, &mut index, &mut message, &mut out)
+    let n = read_full(&mut rt.reader(), space.as_mut_slice())?;
+    replay_all(
+        &rt,
+        &space[..n],
+        index.as_mut_slice(),
+        message.as_mut_slice(),
+        out.as_mut_slice(),
+    )
 }

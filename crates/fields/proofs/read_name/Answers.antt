@@ -11,9 +11,9 @@ returns-then-s-lt1 c = sym (ap (span_reach 1) (name-short c.args.s.now (omega (a
 
 pub returns-then-s-n : goal.returns-then-s-n
 unfolding span_reach
-returns-then-s-n c = sym (ap (span_reach 1) (name-short c.args.s.now (omega (arith, c.wide-n.ensures, c.if-s-n.true))))
+returns-then-s-n c = sym (ap (span_reach 1) (name-short c.args.s.now (omega (arith, c.from-n.ensures, c.if-s-n.true))))
 
 pub returns : goal.returns
 unfolding span_reach
 returns c =
-    rw c.wide-n.ensures (sym (ap (span_reach 1) (name-whole c.args.s.now (omega (arith, c.wide-n.ensures, c.if-s-lt1.false, c.if-s-n.false)))))
+    rw c.from-n.ensures (sym (ap (span_reach 1) (name-whole c.args.s.now (omega (arith, c.from-n.ensures, c.if-s-lt1.false, c.if-s-n.false)))))

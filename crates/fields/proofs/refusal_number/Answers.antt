@@ -1,27 +1,21 @@
--- `refusal_number`: each arm is a line of the definition. Assumes nothing.
+-- `refusal_number`: the numbers of the variants. Assumes nothing.
+use Rattle.std.proofs.Common.{◌≡◌, ◌+◌, refl}
+use denote.Enum.Declared.{tag_of}
+use Rattle.fields.specs.contracts.Refusal.{the_type}
+use Rattle.fields.specs.declared.Refusal.{Refusal}
+use Rattle.fields.specs.declared.Refusal.TheVariants.{Length, Mark, Starts, Short, Unknown, Deep}
 use Rattle.fields.specs.Refusals.{refusal_number}
 use Rattle.fields.proofs.refusal_number.Goals as goal
 
-pub returns-in-Length : goal.returns-in-Length
+-- the numbers are those of the variants
+numbered : (r : Refusal) → tag_of the_type r + 1 ≡ refusal_number r
 unfolding refusal_number
-returns-in-Length c = rw c.in-Length.is
+numbered Length = refl
+numbered Mark = refl
+numbered Starts = refl
+numbered Short = refl
+numbered Unknown = refl
+numbered Deep = refl
 
-pub returns-in-Mark : goal.returns-in-Mark
-unfolding refusal_number
-returns-in-Mark c = rw c.in-Mark.is
-
-pub returns-in-Starts : goal.returns-in-Starts
-unfolding refusal_number
-returns-in-Starts c = rw c.in-Starts.is
-
-pub returns-in-Short : goal.returns-in-Short
-unfolding refusal_number
-returns-in-Short c = rw c.in-Short.is
-
-pub returns-in-Unknown : goal.returns-in-Unknown
-unfolding refusal_number
-returns-in-Unknown c = rw c.in-Unknown.is
-
-pub returns-in-Deep : goal.returns-in-Deep
-unfolding refusal_number
-returns-in-Deep c = rw c.in-Deep.is
+pub returns : goal.returns
+returns c = numbered c.args.r

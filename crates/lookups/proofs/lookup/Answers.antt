@@ -1,8 +1,10 @@
 -- `lookups::lookup` meets its contract: what the trailer refuses is refused; else by the file's length. Assumes nothing.
+use Rattle.std.proofs.lemmas.Result.{err_from_is_err_and}
 use Rattle.story.proofs.Opening.{opened-refused}
 use Rattle.lookups.proofs.Answers.{looked-refused}
 use Rattle.lookups.proofs.lookup.Goals as goal
 
-pub returns-in-Refused : goal.returns-in-Refused
-returns-in-Refused c =
-    looked-refused _ _ _ (opened-refused _ c.read_trailer-opened.ensures c.in-Refused.is)
+pub returns-in_err-read_trailer : goal.returns-in_err-read_trailer
+returns-in_err-read_trailer c =
+    let p = err_from_is_err_and c.from_residual.result c.from_residual.ensures.1 in
+    rw (p.1, p.2) (looked-refused _ _ _ (opened-refused _ c.read_trailer.ensures c.in_err-read_trailer.was))

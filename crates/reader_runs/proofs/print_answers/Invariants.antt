@@ -1,9 +1,6 @@
--- The place stays within the bytes, and what is left of them falls.
-use Rattle.std.proofs.Common.{◌-◌, ◌≤◌, length}
+-- What is left of the bytes falls.
+use Rattle.std.proofs.Common.{length}
 use Rattle.reader_runs.proofs.print_answers.Given as goal
 
-abbrev pub invariant-loop-at : goal.invariant-loop-at
-invariant-loop-at g l = l.at ≤ length l.s
-
-abbrev pub decreases-loop-at : goal.decreases-loop-at
-decreases-loop-at g l = length l.s - l.at
+abbrev pub decreases-loop-length : goal.decreases-loop-length
+decreases-loop-length g l = length l.left

@@ -1,25 +1,19 @@
 -- `sets::put` meets its contract, by where the walk over the slots of the name ends. Assumes nothing.
 use native.Mathlib.Omega.{arith}
 use Rattle.sets.proofs.Putting.{found-known, exhausted-full, vacant-added, vacant-inside}
+use Rattle.sets.proofs.Walking.{number-bound}
+use Rattle.sets.specs.Sets.{number_of}
 use borrow.Author.Rules.{rules}
 use Rattle.sets.proofs.put.Goals as goal
 
-pub offset_bounds-set-slot : goal.offset_bounds-set-slot
-offset_bounds-set-slot c =
-    let i = vacant-inside c.args.file.now c.args.set.now c.args.place c.args.class c.name_at-name.result.now c.name_at-name.ensures c.requires.reachable c.seek-found.ensures c.in-Vacant.is in search (rules, i)
-
-pub bounds-set-slot : goal.bounds-set-slot
-bounds-set-slot c =
-    let i = vacant-inside c.args.file.now c.args.set.now c.args.place c.args.class c.name_at-name.result.now c.name_at-name.ensures c.requires.reachable c.seek-found.ensures c.in-Vacant.is in omega arith
-
 pub returns-in-Found : goal.returns-in-Found
 returns-in-Found c =
-    found-known c.args.file.now c.args.set.now c.args.place c.args.class c.name_at-name.result.now c.name_at-name.ensures c.requires.reachable c.seek-found.ensures c.in-Found.is
+    found-known c.args.file.now c.args.set.now c.args.place (number_of c.args.class) c.name_at-name.result.now c.name_at-name.ensures c.requires.reachable c.seek-found.ensures c.in-Found.is
 
 pub returns-in-Vacant : goal.returns-in-Vacant
 returns-in-Vacant c =
-    vacant-added c.args.file.now c.args.set.now c.args.place c.args.class c.name_at-name.result.now c.name_at-name.ensures c.requires.reachable c.seek-found.ensures c.in-Vacant.is c.requires.place_bound.0 c.requires.place_bound.1 c.hash_in-hash.ensures.0
+    rw c.number.ensures.0 (vacant-added c.args.file.now c.args.set.now c.args.place (number_of c.args.class) c.name_at-name.result.now c.name_at-name.ensures c.requires.reachable c.seek-found.ensures c.in-Vacant.is c.requires.place_bound (number-bound c.args.class) c.hash_in-hash.ensures.0)
 
 pub returns-in-Exhausted : goal.returns-in-Exhausted
 returns-in-Exhausted c =
-    exhausted-full c.args.file.now c.args.set.now c.args.place c.args.class c.name_at-name.result.now c.name_at-name.ensures c.requires.reachable c.seek-found.ensures c.in-Exhausted.is
+    exhausted-full c.args.file.now c.args.set.now c.args.place (number_of c.args.class) c.name_at-name.result.now c.name_at-name.ensures c.requires.reachable c.seek-found.ensures _ c.in-Exhausted.is

@@ -1,15 +1,10 @@
 -- `hear`: a breach, where it is not full. Assumes nothing.
-use native.Mathlib.Omega.{arith}
 use Rattle.rules.specs.Steps.{names_of}
-use Rattle.steps.proofs.Hearing.{hears-none, hears-one, count-below}
+use Rattle.steps.proofs.Hearing.{hears-none, hears-one}
 use Rattle.steps.proofs.hear.Goals as goal
 
 pub returns-then-is_full : goal.returns-then-is_full
 returns-then-is_full c = hears-none _ c.is_full.ensures c.if-is_full.true _ _
-
-pub overflow_add-result : goal.overflow_add-result
-overflow_add-result c =
-    omega (arith, count-below c.args.t c.is_full.ensures c.if-is_full.false)
 
 pub returns : goal.returns
 returns c =

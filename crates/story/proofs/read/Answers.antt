@@ -3,18 +3,18 @@ use Rattle.story.proofs.Opening.{opened-in-order}
 use Rattle.story.proofs.Answers.{trailer-refused, sections-refused, file-read}
 use Rattle.story.proofs.read.Goals as goal
 
-pub read_sections-w-requires : goal.read_sections-w-requires
-read_sections-w-requires c = opened-in-order c.args.file.now c.in-At.c c.read_trailer-opened.ensures c.in-At.is
+pub read_sections-requires : goal.read_sections-requires
+read_sections-requires c = opened-in-order c.args.file.now c.in-Ok.c c.read_trailer.ensures c.in-Ok.is
 
-pub returns-in-Refused : goal.returns-in-Refused
-returns-in-Refused c = trailer-refused c.args.file.now c.args.items.now c.read_trailer-opened.ensures c.in-Refused.is c.refused.ensures
+pub returns-in-Err : goal.returns-in-Err
+returns-in-Err c = trailer-refused c.args.file.now c.args.items.now c.read_trailer.ensures c.in-Err.is c.refused.ensures
 
-pub returns-in-Refused-w : goal.returns-in-Refused-w
-returns-in-Refused-w c =
+pub returns-in-Err-read_sections : goal.returns-in-Err-read_sections
+returns-in-Err-read_sections c =
     let a = c.args in
-    sections-refused a.file.now a.items.now c.in-At.c c.read_trailer-opened.ensures c.in-At.is c.read_sections-w.ensures c.in-Refused-w.is c.refused-in-Refused-w.ensures
+    sections-refused a.file.now a.items.now c.in-Ok.c c.read_trailer.ensures c.in-Ok.is c.read_sections.ensures c.in-Err-read_sections.is c.refused-in-Err-read_sections.ensures
 
-pub returns-in-Done : goal.returns-in-Done
-returns-in-Done c =
+pub returns-in-Ok-read_sections : goal.returns-in-Ok-read_sections
+returns-in-Ok-read_sections c =
     let a = c.args in
-    file-read a.file.now a.items.now c.in-At.c c.read_trailer-opened.ensures c.in-At.is c.read_sections-w.ensures c.in-Done.is
+    file-read a.file.now a.items.now c.in-Ok.c c.read_trailer.ensures c.in-Ok.is c.read_sections.ensures c.in-Ok-read_sections.is

@@ -4,16 +4,6 @@ use Rattle.targets.proofs.Gaining.{found-gained, exhausted-gained, vacant-room, 
 use borrow.Author.Rules.{rules}
 use Rattle.targets.proofs.put_end.Goals as goal
 
-pub offset_bounds-set-at : goal.offset_bounds-set-at
-offset_bounds-set-at c =
-    let i = (vacant-room c.args.file.now c.args.set.now c.args.e c.requires.reachable c.seek_end-found.ensures c.in-Vacant.is).inside in
-    search (rules, i)
-
-pub bounds-set-at : goal.bounds-set-at
-bounds-set-at c =
-    let i = (vacant-room c.args.file.now c.args.set.now c.args.e c.requires.reachable c.seek_end-found.ensures c.in-Vacant.is).inside in
-    omega arith
-
 pub returns-in-Found : goal.returns-in-Found
 returns-in-Found c =
     found-gained c.args.file.now c.args.set.now c.args.e c.requires.reachable c.seek_end-found.ensures c.in-Found.is

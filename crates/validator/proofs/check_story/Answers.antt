@@ -1,5 +1,4 @@
 -- `check_story`: the index is the story's, and the answer its verdict. Assumes nothing.
-use native.Mathlib.Omega.{arith}
 use Rattle.validator.proofs.Reports.{written, ready, story-accepted, story-breached}
 use Rattle.validator.proofs.check_story.Goals as goal
 
@@ -13,15 +12,12 @@ pub write_breach-requires : goal.write_breach-requires
 write_breach-requires c =
     c.requires.end_in_bounds.1
 
-pub returns-in-Clear : goal.returns-in-Clear
-returns-in-Clear c =
+pub returns-in_default : goal.returns-in_default
+returns-in_default c =
     let index = written c.args.file.now c.requires.kept.read c.requires.end_in_bounds.0 c.write_index-entries.ensures in
-    story-accepted index c.args.message.now c.validate_story-found.ensures c.in-Clear.is
+    story-accepted index c.args.message.now c.validate_story-found.ensures c.in_default.is
 
-pub shape_of-index-in-Breach : goal.shape_of-index-in-Breach
-shape_of-index-in-Breach c = omega arith
-
-pub returns-in-Breach : goal.returns-in-Breach
-returns-in-Breach c =
+pub returns : goal.returns
+returns c =
     let index = written c.args.file.now c.requires.kept.read c.requires.end_in_bounds.0 c.write_index-entries.ensures in
-    story-breached index c.validate_story-found.ensures c.in-Breach.is c.write_breach.ensures
+    story-breached index c.validate_story-found.ensures c.in-Some.is c.write_breach.ensures

@@ -5,11 +5,13 @@ use Rattle.context.proofs.Places.{root-ready}
 use Rattle.context.proofs.context.validate_root.Goals as goal
 
 pub put_declared-requires : goal.put_declared-requires
-put_declared-requires c = record { params_in_bounds = rw c.root_scope-scope.ensures (omega arith); rising = kept-rising c.requires.kept }
+put_declared-requires c = record { params_in_bounds = rw c.root_scope-scope.ensures (omega arith); rising = kept-rising c.requires }
 
-pub validate_passes-requires : goal.validate_passes-requires
-validate_passes-requires c =
-    record { many_bound = omega arith; ready = c.requires.ready; scope_ready = rw c.root_scope-scope.ensures (root-ready c.requires.kept c.requires.ready.sections); declared = c.put_declared.ensures }
+pub invariant_of-body : goal.invariant_of-body
+invariant_of-body c = record { ready = rw c.root_scope-scope.ensures (root-ready c.requires c.args.index.now.story.source.in_order) }
+
+pub invariant_of-place : goal.invariant_of-place
+invariant_of-place c = record { covers = c.put_declared.ensures }
 
 pub returns : goal.returns
 returns c = rw c.root_scope-scope.ensures at c.validate_passes.ensures

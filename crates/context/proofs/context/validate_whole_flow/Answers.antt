@@ -1,35 +1,17 @@
--- `validate_whole_flow`: steps 5 and 6, then 7 to 19. Assumes nothing.
+-- `validate_whole_flow`: the filter has the names of the flow. Assumes nothing.
 use native.Mathlib.Omega.{arith}
-use Rattle.context.proofs.Runs.{first_found, first-passed}
+use Rattle.context.proofs.Places.{knot_ready}
 use Rattle.context.proofs.context.validate_whole_flow.Goals as goal
 
 pub put_declared-requires : goal.put_declared-requires
 put_declared-requires c =
-    record { params_in_bounds = omega (arith, c.requires.flow_ready.params); rising = c.requires.flow_ready.own.rising }
+    record { params_in_bounds = rw c.knot_scope-scope.ensures (omega (arith, c.requires.params)); rising = c.requires.own.rising }
 
-pub validate_first_steps-first-requires : goal.validate_first_steps-first-requires
-validate_first_steps-first-requires c =
-    record { ready = c.requires.ready; flow_ready = c.requires.flow_ready; declared = c.put_declared.ensures }
+pub invariant_of-body : goal.invariant_of-body
+invariant_of-body c = record { ready = rw c.knot_scope-scope.ensures (knot_ready _ _ _ c.requires) }
 
-pub returns-in-Breach : goal.returns-in-Breach
-returns-in-Breach c =
-    let args = c.args in
-    first_found args.file.now args.kept.now args.c args.v c.validate_first_steps-first.ensures c.in-Breach.is
+pub invariant_of-place : goal.invariant_of-place
+invariant_of-place c = record { covers = c.put_declared.ensures }
 
-pub validate_later_steps-requires : goal.validate_later_steps-requires
-validate_later_steps-requires c =
-    record { ready = c.requires.ready; flow_ready = c.requires.flow_ready; declared = c.put_declared.ensures }
-
-pub shape_of-declared : goal.shape_of-declared
-shape_of-declared c =
-    omega arith
-
-pub shape_of-gathers : goal.shape_of-gathers
-shape_of-gathers c =
-    omega arith
-
-pub returns : goal.returns
-returns c =
-    let args = c.args in
-    let found = c.validate_first_steps-first.ensures in
-    first-passed args.file.now args.kept.now args.c args.v found c.in_default.is c.validate_later_steps.ensures
+pub invariant_of-view : goal.invariant_of-view
+invariant_of-view c = record { own = c.knot_scope-scope.ensures; flow_ready = c.requires }

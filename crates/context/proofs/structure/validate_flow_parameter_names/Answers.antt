@@ -3,38 +3,30 @@ use native.Mathlib.Omega.{arith}
 use Rattle.context.proofs.Params.{params-start, params-end, params-past, params-found, params-passed}
 use Rattle.context.proofs.structure.validate_flow_parameter_names.Goals as goal
 
-pub loop-left-init : goal.loop-left-init
-loop-left-init c = (omega arith, params-start _ _ _ _)
+pub loop-done-init : goal.loop-done-init
+loop-done-init c = record { within = omega arith; left = params-start _ _ _ _ (omega arith) }
 
 pub returns-then-file-at : goal.returns-then-file-at
-returns-then-file-at c h = params-past c.loop-left.invariant.1 h (omega arith)
+returns-then-file-at c h = params-past c.loop-done.invariant.left h (omega arith)
 
-pub check_parameter_name-judged-requires : goal.check_parameter_name-judged-requires
-check_parameter_name-judged-requires c =
-    record { in_order = c.requires.in_order; functions = c.requires.functions }
-
-pub returns-in-Broken : goal.returns-in-Broken
-returns-in-Broken c h =
-    params-found c.loop-left.invariant.1 h (omega arith) (omega arith) c.name_at.ensures c.check_parameter_name-judged.ensures c.in-Broken.is c.breach_at.ensures
-
-pub bounds-file-at : goal.bounds-file-at
-bounds-file-at c = omega arith
+pub returns-in-Some : goal.returns-in-Some
+returns-in-Some c h =
+    params-found c.loop-done.invariant.left h (omega arith) (omega arith) c.name_at.ensures c.check_parameter_name.ensures c.in-Some.is c.breach_at.ensures
 
 pub overflow_cast-at : goal.overflow_cast-at
-overflow_cast-at c =
-    omega (arith, c.type_inv.file c.loop-left.at)
+overflow_cast-at c = omega (arith, c.type_inv.file c.loop-done.at)
 
-pub overflow_add-at-in-loop-left : goal.overflow_add-at-in-loop-left
-overflow_add-at-in-loop-left c =
-    omega (arith, c.type_inv.file c.loop-left.at)
+pub overflow_add-at-in-loop-done : goal.overflow_add-at-in-loop-done
+overflow_add-at-in-loop-done c = omega (arith, c.type_inv.file c.loop-done.at)
 
-pub overflow_add-at-in-loop-left-2 : goal.overflow_add-at-in-loop-left-2
-overflow_add-at-in-loop-left-2 c =
-    omega (arith, c.type_inv.file c.loop-left.at)
+pub overflow_add-at-in-loop-done-2 : goal.overflow_add-at-in-loop-done-2
+overflow_add-at-in-loop-done-2 c = omega (arith, c.type_inv.file c.loop-done.at)
 
-pub loop-left-preserved : goal.loop-left-preserved
-loop-left-preserved c =
-    (omega (arith, c.type_inv.file c.loop-left.at), params-passed c.loop-left.invariant.1 (omega arith) (omega arith) c.name_at.ensures c.check_parameter_name-judged.ensures c.in_default.is)
+pub loop-done-preserved : goal.loop-done-preserved
+loop-done-preserved c = record {
+  within = omega (arith, c.type_inv.file c.loop-done.at);
+  left = params-passed c.loop-done.invariant.left (omega arith) (omega arith) c.name_at.ensures c.check_parameter_name.ensures c.in_default.is (omega arith);
+}
 
 pub returns : goal.returns
-returns c h = params-end c.loop-left.invariant.1 h (omega arith)
+returns c h = params-end c.loop-done.invariant.left h (omega arith)

@@ -1,11 +1,11 @@
 -- `validate_flow_parameter_names`. The loop's invariant: nothing is found before the names that are left. Assumes nothing.
-use Prim.Native.Nat.{◌+◌, ◌≤◌}
+use Prim.Native.Nat.{◌+◌, ◌-◌, ◌≤◌}
 use lib.ListN.{length}
 use Rattle.context.proofs.Params.{ParamsLeft}
 use Rattle.context.proofs.structure.validate_flow_parameter_names.Given as goal
 
-abbrev pub invariant-loop-left : goal.invariant-loop-left
-invariant-loop-left l = (l.at ≤ length l.file + 256) × ParamsLeft l.file l.c l.flow l.params l.left l.at
-
-abbrev pub decreases-loop-left : goal.decreases-loop-left
-decreases-loop-left l = l.left
+abbrev pub invariant-loop-done : goal.invariant-loop-done
+invariant-loop-done l = record {
+  within : l.at ≤ length l.file + 256;
+  left : ParamsLeft l.file l.story.source.sections l.flow l.params (l.done-end - l.done) l.at;
+}

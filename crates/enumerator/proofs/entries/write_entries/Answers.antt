@@ -5,10 +5,6 @@ use Rattle.targets.specs.Slots.{end_slots}
 use Rattle.enumerator.proofs.Entered.{entered}
 use Rattle.enumerator.proofs.entries.write_entries.Goals as goal
 
-pub enumerate-requires : goal.enumerate-requires
-enumerate-requires c =
-    record { kept = c.requires; count_value = (refl, empty-reachable (end_slots c.args.file.now) c.clear.ensures) }
-
 pub returns : goal.returns
 returns c =
     entered c.args.c c.clear.ensures c.enumerate.ensures

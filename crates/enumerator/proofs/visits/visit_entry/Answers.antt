@@ -1,7 +1,7 @@
 -- `enumerator::visits::visit_entry` meets its contract: each output is written by itself. Assumes nothing.
 use mathlib.Core.Path.{refl}
 use mathlib.Core.List.Memᴰ
-use Rattle.enumerator.proofs.Visited.{visited-one}
+use Rattle.enumerator.specs.Laws.{visited-one}
 use Rattle.enumerator.proofs.visits.visit_entry.Goals as goal
 
 pub put_targets-left-requires : goal.put_targets-left-requires

@@ -6,6 +6,6 @@ pub returns-then-is_of_sort : goal.returns-then-is_of_sort
 unfolding bears
 returns-then-is_of_sort c = rw (← c.is_of_sort.ensures _, c.if-is_of_sort.true, ← c.item_name.ensures) c.same_name.ensures
 
-pub returns : goal.returns
+pub returns-else-is_of_sort : goal.returns-else-is_of_sort
 unfolding bears
-returns c = rw (← c.is_of_sort.ensures _, c.if-is_of_sort.false)
+returns-else-is_of_sort c = rw (← c.is_of_sort.ensures _, c.if-is_of_sort.false)

@@ -1,4 +1,4 @@
--- `found_in`. The loop's invariant: no item before `i` passes. Assumes nothing.
+-- `found_in`. The loop's invariant: no item so far passes. Assumes nothing.
 use mathlib.Core.Path.{sym}
 use native.Mathlib.Omega.{arith}
 use Rattle.items.specs.Search.{found_among}
@@ -6,19 +6,19 @@ use Rattle.items.proofs.Numbered.{items-length, item-there}
 use Rattle.items.proofs.Searching.{passed_start, passed-end, passed-found, passed-next}
 use Rattle.items.proofs.named.found_in.Goals as goal
 
-pub loop-i-init : goal.loop-i-init
-loop-i-init c = (omega arith, passed_start _ _)
+pub loop-item-init : goal.loop-item-init
+loop-item-init c = passed_start _ _
 
 pub returns-then-bears_name : goal.returns-then-bears_name
 unfolding found_among
 returns-then-bears_name c =
-    sym (passed-found c.loop-i.invariant.1 (item-there c.args.file.now c.args.items.now (omega arith)) c.bears_name.ensures c.if-bears_name.true)
+    sym (passed-found c.loop-item.invariant (item-there c.args.file.now c.args.items.now (omega arith)) c.bears_name.ensures c.if-bears_name.true)
 
-pub loop-i-preserved : goal.loop-i-preserved
-loop-i-preserved c =
-    (omega arith, passed-next c.loop-i.invariant.1 (item-there c.args.file.now c.args.items.now (omega arith)) c.bears_name.ensures c.if-bears_name.false)
+pub loop-item-preserved : goal.loop-item-preserved
+loop-item-preserved c =
+    passed-next c.loop-item.invariant (item-there c.args.file.now c.args.items.now (omega arith)) c.bears_name.ensures c.if-bears_name.false
 
 pub returns : goal.returns
 unfolding found_among
 returns c =
-    sym (passed-end c.loop-i.invariant.1 (omega (arith, items-length c.args.file.now c.args.items.now)))
+    sym (passed-end c.loop-item.invariant (omega (arith, items-length c.args.file.now c.args.items.now)))

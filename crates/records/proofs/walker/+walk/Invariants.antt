@@ -1,5 +1,5 @@
 -- The walk: the measure of each function, and what each loop keeps. Assumes nothing.
-use Rattle.std.proofs.Common.{◌≤◌, length, ◌*◌, ◌+◌, ◌≡◌}
+use Rattle.std.proofs.Common.{◌≤◌, length, ◌*◌, ◌+◌, ◌-◌, ◌≡◌}
 use Rattle.records.specs.Grammar.{record_of, exact, repeat, branch, front, listed}
 use Rattle.records.specs.Work.{st, keeping, run}
 use Rattle.fields.specs.declared.Role.TheVariants.{Node}
@@ -80,13 +80,10 @@ invariant-branches-loop-t l =
 abbrev pub decreases-branches-loop-t : goal.decreases-branches-loop-t
 decreases-branches-loop-t l = length l.t
 
-abbrev pub invariant-exact-loop-more : goal.invariant-exact-loop-more
-invariant-exact-loop-more l =
+abbrev pub invariant-exact-loop : goal.invariant-exact-loop
+invariant-exact-loop l =
     ((l.at + length l.t ≡ l.base + length l.s) × (length l.t ≤ length l.s) × (length l.out ≡ length l.initial.out))
-    × (run keeping l.base (st l.initial.out l.n) (exact l.many (record_of l.left l.role) l.s) ≡ run keeping l.at (st l.out l.count) (exact l.more (record_of l.left l.role) l.t))
-
-abbrev pub decreases-exact-loop-more : goal.decreases-exact-loop-more
-decreases-exact-loop-more l = l.more
+    × (run keeping l.base (st l.initial.out l.n) (exact l.many (record_of l.left l.role) l.s) ≡ run keeping l.at (st l.out l.count) (exact (l.many - l.counter) (record_of l.left l.role) l.t))
 
 abbrev pub invariant-last_leaves-loop-t : goal.invariant-last_leaves-loop-t
 invariant-last_leaves-loop-t l =

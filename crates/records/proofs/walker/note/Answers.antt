@@ -1,5 +1,5 @@
 -- `note`: the record is plain, or kept in its slot, or there is none for it. Assumes nothing.
-use Rattle.std.proofs.Common.{◌≡◌, ℕ, List, ◌<◌, ◌≤◌, arith}
+use Rattle.std.proofs.Common.{◌≡◌, ℕ, List, ◌<◌, ◌≤◌, arith, refl}
 use Rattle.fields.specs.declared.Role.{Role}
 use Rattle.records.specs.Items.{sort_of, code, in_branch, labelled}
 use Rattle.records.specs.Numbers.{bit}
@@ -13,7 +13,7 @@ small role kind payload s b l =
     let k = sort_of role kind payload in omega (arith, code-small k, s, bit-small (in_branch role), b, bit-small (labelled k payload), l)
 
 pub returns-then-sort-eq-PLAIN : goal.returns-then-sort-eq-PLAIN
-returns-then-sort-eq-PLAIN c = plain-noted c.args.out.now c.args.n c.args.role c.args.kind c.args.place c.args.payload.now c.sort_of-sort.ensures c.if-sort-eq-PLAIN.true c.wrapping_add_usize.ensures.value
+returns-then-sort-eq-PLAIN c = plain-noted c.args.out.now c.args.n c.args.role c.args.kind c.args.place c.args.payload.now c.sort_of-sort.ensures c.if-sort-eq-PLAIN.true refl
 
 pub overflow_mul-out : goal.overflow_mul-out
 overflow_mul-out c = omega (arith, small c.args.role c.args.kind c.args.payload.now c.sort_of-sort.ensures c.branch_bit-branch.ensures (c.label_bit-label.ensures _ c.sort_of-sort.ensures))
@@ -34,7 +34,7 @@ pub overflow_add-out-then-slot-out-2 : goal.overflow_add-out-then-slot-out-2
 overflow_add-out-then-slot-out-2 c = omega (arith, small c.args.role c.args.kind c.args.payload.now c.sort_of-sort.ensures c.branch_bit-branch.ensures (c.label_bit-label.ensures _ c.sort_of-sort.ensures), c.requires)
 
 pub returns-then-slot-out : goal.returns-then-slot-out
-returns-then-slot-out c = note-kept c.args.out.now c.args.n c.args.role c.args.kind c.args.place c.args.payload.now c.sort_of-sort.ensures c.if-sort-eq-PLAIN.false c.wrapping_add_usize-next.ensures.value c.branch_bit-branch.ensures (c.label_bit-label.ensures (sort_of c.args.role c.args.kind c.args.payload.now) c.sort_of-sort.ensures) c.requires c.if-slot-out.true
+returns-then-slot-out c = note-kept c.args.out.now c.args.n c.args.role c.args.kind c.args.place c.args.payload.now c.sort_of-sort.ensures c.if-sort-eq-PLAIN.false refl c.branch_bit-branch.ensures (c.label_bit-label.ensures (sort_of c.args.role c.args.kind c.args.payload.now) c.sort_of-sort.ensures) c.requires c.if-slot-out.true
 
 pub returns : goal.returns
-returns c = note-full c.args.out.now c.args.n c.args.role c.args.kind c.args.place c.args.payload.now c.sort_of-sort.ensures c.if-sort-eq-PLAIN.false c.wrapping_add_usize-next.ensures.value c.if-slot-out.false
+returns c = note-full c.args.out.now c.args.n c.args.role c.args.kind c.args.place c.args.payload.now c.sort_of-sort.ensures c.if-sort-eq-PLAIN.false refl c.if-slot-out.false

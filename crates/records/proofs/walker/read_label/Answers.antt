@@ -1,29 +1,17 @@
 -- `read_label`: the flag, and the name where it is on. Assumes nothing.
-use Rattle.std.proofs.Common.{arith}
-use Rattle.fields.proofs.Laws.{on_fits}
-use Rattle.records.proofs.Choices.{label-flag-refused, label-none, label-name-refused, label-name, label-name-fits}
+use Rattle.std.proofs.Common.{ap, ◌∙◌, Ok}
+use Rattle.fields.proofs.Laws.{handed_on}
+use Rattle.records.proofs.Choices.{label-flag-refused, label-none, label-name-refused, label-name}
 use Rattle.records.proofs.walker.read_label.Goals as goal
 
-pub slice_bounds-read_name-count : goal.slice_bounds-read_name-count
-slice_bounds-read_name-count c = on_fits c.args.s.now c.read_flag-flag.ensures c.in-On.is
+pub returns-in_err-read_flag : goal.returns-in_err-read_flag
+returns-in_err-read_flag c = rw (handed_on c.from_residual.result c.from_residual.ensures.1) (label-flag-refused c.args.s.now c.read_flag.ensures c.in_err-read_flag.was)
 
-pub slice_bounds-read_name-start : goal.slice_bounds-read_name-start
-slice_bounds-read_name-start c = omega (arith, on_fits c.args.s.now c.read_flag-flag.ensures c.in-On.is)
+pub returns-in_err-e : goal.returns-in_err-e
+returns-in_err-e c = rw (handed_on c.from_residual-in_err-e.result c.from_residual-in_err-e.ensures.1) (rw c.in_err-e.was at (label-name-refused c.args.s.now c.read_flag.ensures (c.in_ok-read_flag.was ∙ ap Ok c.if-branch.true) c.read_name.ensures c.in_err-e.was))
 
-pub returns-in_default : goal.returns-in_default
-returns-in_default c =
-    label-name-refused c.args.s.now c.read_flag-flag.ensures c.in-On.is c.read_name-reach.ensures c.in_default.is
+pub returns-then-branch : goal.returns-then-branch
+returns-then-branch c = label-name c.args.s.now c.read_flag.ensures (c.in_ok-read_flag.was ∙ ap Ok c.if-branch.true) c.read_name.ensures c.in_ok-e.was
 
-pub overflow_add-result : goal.overflow_add-result
-overflow_add-result c =
-    omega (arith, c.requires, label-name-fits c.args.s.now c.read_flag-flag.ensures c.in-On.is c.read_name-reach.ensures c.in-To.is)
-
-pub returns-in-Refused : goal.returns-in-Refused
-returns-in-Refused c = label-flag-refused c.args.s.now c.read_flag-flag.ensures c.in-Refused.is
-
-pub returns-in-Off : goal.returns-in-Off
-returns-in-Off c = label-none c.args.s.now c.read_flag-flag.ensures c.in-Off.is
-
-pub returns-in-To : goal.returns-in-To
-returns-in-To c =
-    label-name c.args.s.now c.read_flag-flag.ensures c.in-On.is c.read_name-reach.ensures c.in-To.is
+pub returns : goal.returns
+returns c = label-none c.args.s.now c.read_flag.ensures (c.in_ok-read_flag.was ∙ ap Ok c.if-branch.false)

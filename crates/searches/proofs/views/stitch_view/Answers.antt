@@ -12,24 +12,24 @@ pub overflow_add-at : goal.overflow_add-at
 overflow_add-at c = omega (
   arith,
   (let a = c.args in
-      piece-within a.file.now a.at a.end c.read_list.ensures c.in-To.e c.in-To.is),
+      piece-within a.file.now a.at a.end c.read_list.ensures c.in-Ok.e c.in-Ok.is),
 )
 
 pub overflow_add-at-2 : goal.overflow_add-at-2
 overflow_add-at-2 c = omega (
   arith,
   (let a = c.args in
-      piece-within a.file.now a.at a.end c.read_list.ensures c.in-To.e c.in-To.is),
+      piece-within a.file.now a.at a.end c.read_list.ensures c.in-Ok.e c.in-Ok.is),
 )
 
 pub title_view-requires : goal.title_view-requires
 title_view-requires c = omega (
   arith,
   (let a = c.args in
-      piece-within a.file.now a.at a.end c.read_list.ensures c.in-To.e c.in-To.is),
+      piece-within a.file.now a.at a.end c.read_list.ensures c.in-Ok.e c.in-Ok.is),
 )
 
 pub returns : goal.returns
 returns c =
     let a = c.args in
-    rw (stitch-view-at a.file.now a.at a.end c.read_list.ensures c.in-To.e c.in-To.is) c.title_view.ensures
+    rw (stitch-view-at a.file.now a.at a.end c.read_list.ensures c.in-Ok.e c.in-Ok.is) c.title_view.ensures

@@ -11,21 +11,21 @@ returns-in_default c = rw (← c.read_heading.ensures, c.in_default.is)
 
 pub overflow_add-result : goal.overflow_add-result
 overflow_add-result c = let o = (let read-heading = c.read_heading in
-    places-order c.args.file.now c.args.name c.args.end c.in-At.h read-heading.ensures c.in-At.is) in omega arith
+    places-order c.args.file.now c.args.name c.args.end c.in-Ok.h read-heading.ensures c.in-Ok.is) in omega arith
 
 pub overflow_add-result-2 : goal.overflow_add-result-2
 overflow_add-result-2 c = let o = (let read-heading = c.read_heading in
-    places-order c.args.file.now c.args.name c.args.end c.in-At.h read-heading.ensures c.in-At.is) in omega arith
+    places-order c.args.file.now c.args.name c.args.end c.in-Ok.h read-heading.ensures c.in-Ok.is) in omega arith
 
 pub overflow_add-result-3 : goal.overflow_add-result-3
 overflow_add-result-3 c = let o = (let read-heading = c.read_heading in
-    places-order c.args.file.now c.args.name c.args.end c.in-At.h read-heading.ensures c.in-At.is) in omega arith
+    places-order c.args.file.now c.args.name c.args.end c.in-Ok.h read-heading.ensures c.in-Ok.is) in omega arith
 
 pub overflow_add-result-4 : goal.overflow_add-result-4
 overflow_add-result-4 c = let o = (let read-heading = c.read_heading in
-    places-order c.args.file.now c.args.name c.args.end c.in-At.h read-heading.ensures c.in-At.is) in omega arith
+    places-order c.args.file.now c.args.name c.args.end c.in-Ok.h read-heading.ensures c.in-Ok.is) in omega arith
 
 pub returns : goal.returns
 unfolding title_view_of title_view_at part
 returns c =
-    rw (← c.read_heading.ensures, c.in-At.is)
+    rw (← c.read_heading.ensures, c.in-Ok.is)

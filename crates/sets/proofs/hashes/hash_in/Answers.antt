@@ -4,4 +4,4 @@ use Rattle.sets.proofs.hashes.hash_in.Goals as goal
 
 pub returns : goal.returns
 unfolding hash_from
-returns c = c.hash_on.ensures
+returns c = rw (← c.number.ensures.0) c.hash_on.ensures

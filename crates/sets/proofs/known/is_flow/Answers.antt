@@ -7,6 +7,6 @@ pub returns-then-has : goal.returns-then-has
 returns-then-has c =
     flow-found c.requires.names_in.flows false c.args.name.now c.has.ensures c.if-has.true
 
-pub returns : goal.returns
-returns c =
+pub returns-else-has : goal.returns-else-has
+returns-else-has c =
     flow-left c.requires.names_in.flows false c.args.name.now c.has.ensures c.if-has.false c.is_flow_name.ensures

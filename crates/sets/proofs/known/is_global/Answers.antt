@@ -7,6 +7,6 @@ pub returns-then-has : goal.returns-then-has
 returns-then-has c =
     holding-found c.requires.names_in.globals c.args.name.now c.has.ensures c.if-has.true
 
-pub returns : goal.returns
-returns c =
+pub returns-else-has : goal.returns-else-has
+returns-else-has c =
     section-left c.args.file.now c.args.n.globals c.args.c.externals c.requires.names_in.globals c.args.name.now c.has.ensures c.if-has.false c.section_has_name.ensures

@@ -1,5 +1,5 @@
 -- `sets::known::put_flows` meets its contract. The loop's invariant: the set holds the names of the flows before `at`. Assumes nothing.
-use mathlib.Core.Path.{refl}
+use mathlib.Core.Path.{refl, sym, ◌∙◌}
 use native.Mathlib.Omega.{arith}
 use Rattle.searches.proofs.Viewed.{flow-viewed, flow-laid}
 use Rattle.sets.proofs.Flows.{flows-start, flows-next, flows-stop}
@@ -8,29 +8,26 @@ use Rattle.sets.proofs.known.put_flows.Goals as goal
 pub loop-v-init : goal.loop-v-init
 loop-v-init c = (refl, flows-start c.args.file.now c.args.c c.args.set.now c.requires.without c.requires.without_2 c.requires.in_order.flows)
 
-pub flow_view-requires : goal.flow_view-requires
-flow_view-requires c = omega (arith, c.loop-v.invariant.1.inside, c.requires.in_order.trailer)
-
-pub returns-in_default : goal.returns-in_default
-returns-in_default c = c.loop-v.invariant.1
+pub returns : goal.returns
+returns c = c.loop-v.invariant.1
 
 pub put_flow-requires : goal.put_flow-requires
 put_flow-requires c =
-    let l = flow-laid c.args.file.now c.loop-v.at c.args.c.end c.in-View.v c.flow_view.ensures c.in-View.is in
+    let l = flow-laid c.args.file.now c.loop-v.at c.args.c.end c.in-Some.v c.flow_view.ensures c.in-Some.is in
     record { name_bound = omega (arith, c.requires.in_order.trailer, c.requires.in_order.short); reachable = c.loop-v.invariant.1.reachable }
 
-pub returns-then-put_flow : goal.returns-then-put_flow
-returns-then-put_flow c = flows-stop c.loop-v.invariant.1 c.in-View.v c.put_flow.ensures (flow-viewed c.args.file.now c.loop-v.at c.args.c.end c.in-View.v c.flow_view.ensures c.in-View.is)
+pub returns-then-is_err : goal.returns-then-is_err
+returns-then-is_err c = flows-stop c.loop-v.invariant.1 c.in-Some.v c.put_flow.ensures (flow-viewed c.args.file.now c.loop-v.at c.args.c.end c.in-Some.v c.flow_view.ensures c.in-Some.is)
 
 pub loop-v-smaller : goal.loop-v-smaller
 loop-v-smaller c =
-    let l = flow-laid c.args.file.now c.loop-v.at c.args.c.end c.in-View.v c.flow_view.ensures c.in-View.is in
+    let l = flow-laid c.args.file.now c.loop-v.at c.args.c.end c.in-Some.v c.flow_view.ensures c.in-Some.is in
     omega (arith, c.loop-v.invariant.1.inside)
 
 pub loop-v-preserved : goal.loop-v-preserved
 loop-v-preserved c =
-    let l = flow-laid c.args.file.now c.loop-v.at c.args.c.end c.in-View.v c.flow_view.ensures c.in-View.is in (
+    let l = flow-laid c.args.file.now c.loop-v.at c.args.c.end c.in-Some.v c.flow_view.ensures c.in-Some.is in (
       omega (arith, c.loop-v.invariant.0),
-      flows-next c.loop-v.invariant.1 c.in-View.v c.put_flow.ensures (flow-viewed c.args.file.now c.loop-v.at c.args.c.end c.in-View.v c.flow_view.ensures c.in-View.is)
-          (omega arith) c.if-put_flow.false,
+      flows-next c.loop-v.invariant.1 c.in-Some.v c.put_flow.ensures (flow-viewed c.args.file.now c.loop-v.at c.args.c.end c.in-Some.v c.flow_view.ensures c.in-Some.is)
+          (omega arith) (sym c.is_err.ensures.value ∙ c.if-is_err.false),
     )

@@ -6,6 +6,6 @@ pub returns-then-has : goal.returns-then-has
 returns-then-has c =
     member-found c.requires.members c.args.name.now c.has.ensures c.if-has.true
 
-pub returns : goal.returns
-returns c =
+pub returns-else-has : goal.returns-else-has
+returns-else-has c =
     member-left c.requires.members c.args.name.now c.has.ensures c.if-has.false c.found_in.ensures

@@ -1,45 +1,22 @@
--- `steps::bodies::validate_steps` meets its contract. The loop's invariant: the first i steps were run. Assumes nothing.
-use mathlib.Core.Path.{refl}
-use native.Mathlib.Omega.{arith}
+-- `steps::bodies::validate_steps` meets its contract. Assumes nothing.
+use Rattle.std.proofs.Common.{arith, ap, refl, length}
+use Rattle.std.proofs.lemmas.List.{length-map}
 use Rattle.items.proofs.Standing.{kept-names-stand}
-use Rattle.steps.proofs.Coursing.{coursing-start, coursing-ready, coursing-next, coursing-end, coursing-full}
+use Rattle.steps.specs.Brackets.{step_of}
+use Rattle.steps.proofs.Next.{drop-next}
+use Rattle.steps.proofs.Coursing.{coursing-next, coursing-end, coursing-full}
 use Rattle.steps.proofs.bodies.validate_steps.Goals as goal
 
 pub put_body-rests-requires : goal.put_body-rests-requires
-put_body-rests-requires c = record { scope_ready = c.requires.scope_ready; names_stand = kept-names-stand c.requires.targets_ready.read }
-
-pub loop-i-init : goal.loop-i-init
-loop-i-init c = (refl, refl, coursing-start c.put_body-rests.ensures _)
-
-pub shape_of-body-then-is_full : goal.shape_of-body-then-is_full
-shape_of-body-then-is_full c = omega (arith, c.loop-i.invariant.0)
-
-pub shape_of-list-then-is_full : goal.shape_of-list-then-is_full
-shape_of-list-then-is_full c = omega (arith, c.loop-i.invariant.1)
+put_body-rests-requires c = record { scope_ready = c.requires.scope_ready; names_stand = kept-names-stand c.args.story.now.targets_ready.read }
 
 pub returns-then-is_full : goal.returns-then-is_full
-returns-then-is_full c = λ s h. coursing-full c.loop-i.invariant.2 s h c.is_full.ensures c.if-is_full.true
+returns-then-is_full c = λ s h. coursing-full c.loop-step.invariant s h c.is_full.ensures c.if-is_full.true
 
-pub turn_at-next-requires : goal.turn_at-next-requires
-turn_at-next-requires c = omega (arith, c.requires.steps)
-
-pub validate_nodes-tally-requires : goal.validate_nodes-tally-requires
-validate_nodes-tally-requires c = rw c.turn_at-next.ensures (coursing-ready c.put_body-rests.ensures c.requires c.loop-i.invariant.2 c.loop-i-test.true)
-
-pub overflow_add-i : goal.overflow_add-i
-overflow_add-i c = omega (arith, c.requires.steps, c.loop-i-test.true)
-
-pub loop-i-smaller : goal.loop-i-smaller
-loop-i-smaller c = omega (arith, c.loop-i-test.true)
-
-pub loop-i-preserved : goal.loop-i-preserved
-loop-i-preserved c = (omega (arith, c.loop-i.invariant.0), omega (arith, c.loop-i.invariant.1), coursing-next c.loop-i.invariant.2 c.requires c.loop-i-test.true (rw c.turn_at-next.ensures at c.validate_nodes-tally.ensures.list_after) (rw c.turn_at-next.ensures at c.validate_nodes-tally.ensures.body_unchanged))
-
-pub shape_of-body : goal.shape_of-body
-shape_of-body c = omega (arith, c.loop-i.invariant.0)
-
-pub shape_of-list : goal.shape_of-list
-shape_of-list c = omega (arith, c.loop-i.invariant.1)
+pub loop-step-preserved : goal.loop-step-preserved
+loop-step-preserved c =
+    coursing-next c.loop-step.invariant c.steps-steps.result.now c.steps-steps.ensures (drop-next _ _ _ c.loop-step-test.true) (omega (arith, ap length c.steps-steps.ensures, length-map c.steps-steps.result.now step_of))
+    (rw c.turn_at-turn.ensures at c.validate_nodes-tally.ensures.list_after) (rw c.turn_at-turn.ensures at c.validate_nodes-tally.ensures.body_unchanged) refl
 
 pub returns : goal.returns
-returns c = λ s h. coursing-end c.loop-i.invariant.2 s h (omega arith)
+returns c = λ s h. coursing-end c.loop-step.invariant s h (omega (arith, ap length c.steps-steps.ensures, length-map c.steps-steps.result.now step_of))

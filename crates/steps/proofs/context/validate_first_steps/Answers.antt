@@ -1,5 +1,4 @@
 -- `steps::context::validate_first_steps` meets its contract. Assumes nothing.
-use native.Mathlib.Omega.{arith}
 use Rattle.items.specs.Bodies.{kept_flow}
 use Rattle.steps.specs.Heard.{heard}
 use Rattle.steps.proofs.Knots.{knot-heading, knot-params, knot-scope-is, knot-flow-is, first-told}
@@ -11,11 +10,5 @@ validate_function_purity-purity-requires c = knot-heading c.requires _ _ _
 pub validate_flow_parameter_names-requires : goal.validate_flow_parameter_names-requires
 validate_flow_parameter_names-requires c = record { heading_ready = knot-heading c.requires _ _ _; params_in_bounds = knot-params c.requires }
 
-pub shape_of-body : goal.shape_of-body
-shape_of-body c = omega (arith, c.body-1.given, c.list-1.given, c.list-2-1.given)
-
-pub shape_of-list : goal.shape_of-list
-shape_of-list c = omega (arith, c.body-1.given, c.list-1.given, c.list-2-1.given)
-
 pub returns : goal.returns
-returns c = first-told c.requires (heard c.args.k.tally c.args.list.now) (c.validate_function_purity-purity.ensures.list_after _ (kept_flow c.args.file.now c.args.kept.now c.args.k.flow) (knot-scope-is c.requires) (knot-flow-is c.requires c.args.k.tally)) (c.validate_flow_parameter_names.ensures _ (knot-scope-is c.requires))
+returns c = first-told c.requires c.args.story.now.view.sections (heard c.args.k.tally c.args.list.now) (c.validate_function_purity-purity.ensures.list_after _ (kept_flow c.args.story.now.file.now c.args.story.now.kept.now c.args.k.flow) (knot-scope-is c.requires) (knot-flow-is c.requires c.args.k.tally)) (c.validate_flow_parameter_names.ensures _ (knot-scope-is c.requires))

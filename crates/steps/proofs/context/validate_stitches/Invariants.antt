@@ -1,12 +1,10 @@
 -- `steps::context::validate_stitches` meets its contract. The loop's invariant: what is to be heard is what the stitches that are left find. Assumes nothing.
-use mathlib.Core.Path.{◌≡◌}
 use Prim.Native.Nat.{◌-◌}
-use lib.ListN.{length}
 use Rattle.steps.proofs.Stories.{Stitching}
 use Rattle.steps.proofs.context.validate_stitches.Given as goal
 
 abbrev pub invariant-loop-w : goal.invariant-loop-w
-invariant-loop-w l = ((length l.body ≡ length l.initial.body) × (length l.list ≡ length l.initial.list)) × Stitching l.file l.kept l.k l.initial.list l.tally l.list l.at l.start
+invariant-loop-w l = Stitching l.story.view.sections l.story.file.now l.story.kept.now l.k l.initial.list l.tally l.list l.at l.start
 
 abbrev pub decreases-loop-w : goal.decreases-loop-w
 decreases-loop-w l = l.k.flow.end - l.at

@@ -9,7 +9,7 @@ use Rattle.steps.proofs.fillings.put_body.Goals as goal
 pub put_items-own-requires : goal.put_items-own-requires
 unfolding part
 put_items-own-requires c =
-    record { class_bound = omega arith; names_stand = stand-part c.requires.names_stand c.args.s.first c.args.s.last; without = empty-without _ 1 c.clear.ensures }
+    record { names_stand = stand-part c.requires.names_stand c.args.s.first c.args.s.last; without = empty-without _ 1 c.clear.ensures }
 
 pub returns-then-inner : goal.returns-then-inner
 unfolding part

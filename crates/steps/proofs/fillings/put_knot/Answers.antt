@@ -10,12 +10,12 @@ use Rattle.steps.proofs.fillings.put_knot.Goals as goal
 pub put_items-labels-requires : goal.put_items-labels-requires
 unfolding part
 put_items-labels-requires c =
-    record { class_bound = omega arith; names_stand = stand-part c.requires.names_stand c.args.s.knot c.args.s.end; without = empty-without _ 0 c.clear.ensures }
+    record { names_stand = stand-part c.requires.names_stand c.args.s.knot c.args.s.end; without = empty-without _ 0 c.clear.ensures }
 
 pub put_items-temps-requires : goal.put_items-temps-requires
 unfolding part
 put_items-temps-requires c =
-    record { class_bound = omega arith; names_stand = stand-part c.requires.names_stand c.args.s.knot c.args.s.own; without = without-members c.put_items-labels.ensures (λ e. omega arith) (empty-without _ 1 c.clear.ensures) }
+    record { names_stand = stand-part c.requires.names_stand c.args.s.knot c.args.s.own; without = without-members c.put_items-labels.ensures (λ e. omega arith) (empty-without _ 1 c.clear.ensures) }
 
 pub returns : goal.returns
 unfolding part

@@ -7,6 +7,3 @@ index_from-last-requires c = record { rising = c.requires.flow_ready.own.rising;
 
 pub index_from-end-requires : goal.index_from-end-requires
 index_from-end-requires c = record { rising = c.requires.flow_ready.own.rising; start_bound = start-onward _ _ _ (body-within _ _ _ c.requires.flow_ready) c.index_from-last.ensures.0 }
-
-pub returns : goal.returns
-returns c = rw (c.index_from-first.ensures.0, c.index_from-last.ensures.0, c.index_from-end.ensures.0, c.has_stitches-stitched.ensures)

@@ -4,6 +4,3 @@ use Rattle.steps.proofs.scopes.root_scope.Goals as goal
 
 pub index_from-last-requires : goal.index_from-last-requires
 index_from-last-requires c = record { rising = c.requires.rising; start_bound = start-onward _ _ _ c.requires.in_order.root c.index_from-first.ensures.0 }
-
-pub returns : goal.returns
-returns c = rw (c.index_from-first.ensures.0, c.index_from-last.ensures.0)

@@ -1,46 +1,16 @@
 -- `read_unflagged`: the title with its nodes, then the stitches. Assumes nothing.
-use native.Mathlib.Omega.{arith}
+use Rattle.fields.proofs.Laws.{handed_on}
 use Rattle.records.specs.Work.{st, keeping}
 use Rattle.story.specs.Flows.{stitches}
-use Rattle.story.proofs.TitleWalks.{title-fits, titled-on, titled-else}
-use Rattle.std.proofs.Common.{length-take, length-drop, ℕ}
+use Rattle.story.proofs.TitleWalks.{titled-on, titled-else}
 use Rattle.story.proofs.flows.read_unflagged.Goals as goal
 
-pub slice_bounds-read_stitches-count : goal.slice_bounds-read_stitches-count
-slice_bounds-read_stitches-count c = ((let a = c.args in
-    title-fits keeping a.base (st a.out.now a.n) a.s.now c.read_title-piece.ensures c.in-To.end c.in-To.m c.in-To.is)).1
-
-pub slice_bounds-read_stitches-start : goal.slice_bounds-read_stitches-start
-slice_bounds-read_stitches-start c = omega (
-  arith,
-  (let a = c.args in
-      title-fits keeping a.base (st a.out.now a.n) a.s.now c.read_title-piece.ensures c.in-To.end c.in-To.m c.in-To.is),
-)
-
-pub overflow_add-base : goal.overflow_add-base
-overflow_add-base c = omega (
-  arith,
-  (let a = c.args in
-      title-fits keeping a.base (st a.out.now a.n) a.s.now c.read_title-piece.ensures c.in-To.end c.in-To.m c.in-To.is),
-  c.requires,
-)
-
-pub read_stitches-requires : goal.read_stitches-requires
-read_stitches-requires c = omega (
-  arith,
-  (let a = c.args in
-      title-fits keeping a.base (st a.out.now a.n) a.s.now c.read_title-piece.ensures c.in-To.end c.in-To.m c.in-To.is),
-  length-take {A = ℕ},
-  length-drop {A = ℕ},
-  c.requires,
-)
-
-pub returns-in-Refused : goal.returns-in-Refused
-returns-in-Refused c =
+pub returns-in_err-end : goal.returns-in_err-end
+returns-in_err-end c =
     let a = c.args in
-    titled-else keeping a.base (st a.out.now a.n) a.s.now c.read_title-piece.ensures stitches c.in-Refused.r c.in-Refused.is
+    rw (handed_on c.from_residual.result c.from_residual.ensures.1) (titled-else keeping a.base (st a.out.now a.n) a.s.now c.read_title.ensures stitches c.in_err-end.field-0.0 c.in_err-end.was)
 
-pub returns-in-To : goal.returns-in-To
-returns-in-To c =
+pub returns : goal.returns
+returns c =
     let a = c.args in
-    rw (titled-on keeping a.base (st a.out.now a.n) a.s.now c.read_title-piece.ensures stitches c.in-To.end c.in-To.m c.in-To.is) c.read_stitches.ensures
+    rw (titled-on keeping a.base (st a.out.now a.n) a.s.now c.read_title.ensures stitches c.in_ok-end.end c.in_ok-end.m c.in_ok-end.was) c.read_pieces.ensures

@@ -1,28 +1,26 @@
 -- `names_reach`: what is left of the names, from the offset reached. Assumes nothing.
-use mathlib.Core.Path.{refl, ◌∙◌}
-use Prim.Native.Nat.{◌+◌, ◌≤◌}
-use native.Mathlib.Omega.{arith}
-use lib.ListN.{length}
-use Rattle.fields.proofs.Laws.{name-within}
+use Rattle.std.proofs.Common.{◌≡◌, ◌+◌, ◌-◌, refl, ◌∙◌, arith, length-take, length-drop, ℕ}
+use Rattle.fields.proofs.Laws.{handed_on, name-within}
 use Rattle.story.proofs.Reaches.{reach-on, reach-refused, reach-end}
-use Rattle.std.proofs.Common.{length-take, length-drop, ℕ}
 use Rattle.story.proofs.headings.names_reach.Goals as goal
 
-pub loop-left-init : goal.loop-left-init
-loop-left-init c = (omega arith, refl)
+pub loop-init : goal.loop-init
+loop-init c = let all : c.args.many - 0 ≡ c.args.many = omega arith in (omega arith, rw all refl)
 
-pub returns-in_default : goal.returns-in_default
-returns-in_default c =
-    let l = c.loop-left in
-    rw l.invariant.1 (reach-refused c.args.s.now l.left l.e c.in_default.field-0 c.loop-left-test.true c.read_name-reach.ensures c.in_default.is)
+pub returns-in_err-to : goal.returns-in_err-to
+returns-in_err-to c =
+    let l = c.loop in
+    rw (handed_on c.from_residual.result c.from_residual.ensures.1) (rw l.invariant.1 (rw c.in_err-to.was at (reach-refused c.args.s.now (c.args.many - l.counter) l.e c.in_err-to.field-0.0 (omega arith) c.read_name.ensures c.in_err-to.was)))
 
 pub overflow_add-e : goal.overflow_add-e
-overflow_add-e c = omega (arith, name-within _ c.in-To.to c.read_name-reach.ensures c.in-To.is, length-take {A = ℕ}, length-drop {A = ℕ}, c.loop-left.invariant.0)
+overflow_add-e c = omega (arith, name-within _ c.in_ok-to.to c.read_name.ensures c.in_ok-to.was, length-take {A = ℕ}, length-drop {A = ℕ}, c.loop.invariant.0)
 
-pub loop-left-preserved : goal.loop-left-preserved
-loop-left-preserved c =
-    let l = c.loop-left in
-    (omega (arith, name-within _ c.in-To.to c.read_name-reach.ensures c.in-To.is, length-take {A = ℕ}, length-drop {A = ℕ}, c.loop-left.invariant.0), l.invariant.1 ∙ reach-on c.args.s.now l.left l.e c.in-To.to c.loop-left-test.true c.read_name-reach.ensures c.in-To.is)
+pub loop-preserved : goal.loop-preserved
+loop-preserved c =
+    let l = c.loop in
+    let left = c.args.many - l.counter in
+    let fewer : left - 1 ≡ c.args.many - (l.counter + 1) = omega arith in
+    (omega (arith, name-within _ c.in_ok-to.to c.read_name.ensures c.in_ok-to.was, length-take {A = ℕ}, length-drop {A = ℕ}, l.invariant.0), rw (← fewer) (l.invariant.1 ∙ reach-on c.args.s.now left l.e c.in_ok-to.to (omega arith) c.read_name.ensures c.in_ok-to.was))
 
 pub returns : goal.returns
-returns c = rw c.loop-left.invariant.1 (reach-end c.args.s.now c.loop-left.left c.loop-left.e c.loop-left-test.false)
+returns c = rw c.loop.invariant.1 (reach-end c.args.s.now (c.args.many - c.loop.counter) c.loop.e (omega arith))

@@ -1,4 +1,4 @@
--- `symbols::entries::put_flows` meets its contract. The loop's invariant: what is left to be stored are the flows from `at` on,
+-- `symbols::entries::put_flows` meets its contract. The loop's invariant: what is left to be visited are the flows from `at` on,
 -- they can be read, and their items are kept. Assumes nothing.
 use mathlib.Core.Path.{ap, refl}
 use mathlib.Core.List.{map}
@@ -7,48 +7,58 @@ use Rattle.story.specs.Plain.{flow_without_plain}
 use Rattle.searches.proofs.Viewed.{flow-laid}
 use Rattle.searches.proofs.Readable.{no_flow, flow-readable}
 use Rattle.items.proofs.Kept.{flow-stitches, flow-rest, flows-plain, flows-from}
-use Rattle.symbols.proofs.Stored.{storing-start, storing-end, storing-many}
+use Rattle.symbols.proofs.Visiting.{visiting-parts, visiting-end, visiting-ready, visiting-many}
 use Rattle.symbols.proofs.Placed.{flows-none, flows-next}
 use Rattle.symbols.proofs.entries.put_flows.Goals as goal
 
 pub loop-v-init : goal.loop-v-init
-loop-v-init c = ((c.requires.range.ordered, refl), (c.requires.file_value, c.requires.flows_kept), storing-start)
+loop-v-init g c =
+    ((c.requires.range.ordered), (c.requires.file_value, c.requires.flows_kept), visiting-parts g.met.V.Visit.laws refl c.requires.ready)
 
 pub flow_view-requires : goal.flow_view-requires
-flow_view-requires c = (c.loop-v.invariant.0.0, c.requires.range.within)
+flow_view-requires g c = (c.loop-v.invariant.0, c.requires.range.within)
 
-pub returns-in_default : goal.returns-in_default
-returns-in_default c =
+pub returns : goal.returns
+returns g c =
+    visiting-end g.met.V.Visit.laws c.loop-v.invariant.2 (flows-none (ap (map flow_without_plain) (no_flow c.args.file.now c.loop-v.at c.args.end c.loop-v.invariant.1.0 c.flow_view.ensures c.in_default.is)))
+
+pub put_flow-requires : goal.put_flow-requires
+put_flow-requires g c =
+    let file = c.args.file.now in
+    let end = c.args.end in
     let loop = c.loop-v in
-    storing-end loop.invariant.2 (flows-none (ap (map flow_without_plain) (no_flow c.args.file.now loop.at c.args.end loop.invariant.1.0 c.flow_view.ensures c.in_default.is)))
+    let r = c.requires.range in
+    let view = c.flow_view.ensures in
+    let l = flow-laid file loop.at end c.in-Some.v view c.in-Some.is in record {
+      name_lt_params = (l.name, omega (arith, r.within), record { ordered = l.stitches; within = omega (arith, r.within); short = r.short });
+      file_value = (flow-readable file loop.at end loop.invariant.1.0 view c.in-Some.v c.in-Some.is).own;
+      stitches_kept = flow-stitches file _ loop.at end loop.invariant.0 r.within r.short loop.invariant.1.0 loop.invariant.1.1 c.in-Some.v view c.in-Some.is;
+      ready = visiting-ready g.met.V.Visit.laws loop.invariant.2 _ _
+          (flows-next (flows-plain file _ loop.at end loop.invariant.0 r.within r.short loop.invariant.1.0 loop.invariant.1.1 c.in-Some.v view c.in-Some.is))
+          c.requires.ready;
+    }
 
-pub put_flow-count-requires : goal.put_flow-count-requires
-put_flow-count-requires c =
-    let loop = c.loop-v in
-    let flow-view = c.flow_view in
-    let l = flow-laid c.args.file.now loop.at c.args.end c.in-View.v flow-view.ensures c.in-View.is in record { name_lt_params = (l.name, omega (arith, c.requires.range.within), record { ordered = l.stitches; within = omega (arith, c.requires.range.within); short = c.requires.range.short }); file_value = (flow-readable c.args.file.now loop.at c.args.end loop.invariant.1.0 flow-view.ensures c.in-View.v c.in-View.is).own; stitches_kept = flow-stitches c.args.file.now _ loop.at c.args.end loop.invariant.0.0 c.requires.range.within c.requires.range.short loop.invariant.1.0 loop.invariant.1.1 c.in-View.v flow-view.ensures c.in-View.is }
-
-pub items_from-next-requires : goal.items_from-next-requires
-items_from-next-requires c =
-    c.loop-v.invariant.1.1.rising
+pub items_from-rest-requires : goal.items_from-rest-requires
+items_from-rest-requires g c = c.loop-v.invariant.1.1.rising
 
 pub loop-v-smaller : goal.loop-v-smaller
-loop-v-smaller c =
-    let loop = c.loop-v in
-    let flow-view = c.flow_view in
-    let l = flow-laid c.args.file.now loop.at c.args.end c.in-View.v flow-view.ensures c.in-View.is in omega (arith, loop.invariant.0)
+loop-v-smaller g c =
+    let l = flow-laid c.args.file.now c.loop-v.at c.args.end c.in-Some.v c.flow_view.ensures c.in-Some.is in omega (arith, c.loop-v.invariant.0)
 
 pub loop-v-preserved : goal.loop-v-preserved
-loop-v-preserved c =
+loop-v-preserved g c =
+    let file = c.args.file.now in
+    let end = c.args.end in
     let loop = c.loop-v in
-    let flow-view = c.flow_view in
-    let l = flow-laid c.args.file.now loop.at c.args.end c.in-View.v flow-view.ensures c.in-View.is in (
-      omega (arith, loop.invariant.0, c.put_flow-count.auto),
+    let r = c.requires.range in
+    let view = c.flow_view.ensures in
+    let l = flow-laid file loop.at end c.in-Some.v view c.in-Some.is in (
+      omega (arith, loop.invariant.0),
       (
-        (flow-readable c.args.file.now loop.at c.args.end loop.invariant.1.0 flow-view.ensures c.in-View.v c.in-View.is).rest,
-        flows-from c.items_from-next.ensures (flow-rest c.args.file.now _ loop.at c.args.end loop.invariant.0.0 c.requires.range.within c.requires.range.short loop.invariant.1.0 loop.invariant.1.1 c.in-View.v flow-view.ensures c.in-View.is),
+        (flow-readable file loop.at end loop.invariant.1.0 view c.in-Some.v c.in-Some.is).rest,
+        flows-from c.items_from-rest.ensures (flow-rest file _ loop.at end loop.invariant.0 r.within r.short loop.invariant.1.0 loop.invariant.1.1 c.in-Some.v view c.in-Some.is),
       ),
-      storing-many loop.invariant.2 _
-          (flows-next (flows-plain c.args.file.now _ loop.at c.args.end loop.invariant.0.0 c.requires.range.within c.requires.range.short loop.invariant.1.0 loop.invariant.1.1 c.in-View.v flow-view.ensures c.in-View.is))
-          c.put_flow-count.ensures,
+      visiting-many g.met.V.Visit.laws loop.invariant.2
+          (flows-next (flows-plain file _ loop.at end loop.invariant.0 r.within r.short loop.invariant.1.0 loop.invariant.1.1 c.in-Some.v view c.in-Some.is))
+          c.put_flow.ensures,
     )

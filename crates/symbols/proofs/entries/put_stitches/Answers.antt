@@ -1,4 +1,4 @@
--- `symbols::entries::put_stitches` meets its contract. The loop's invariant: what is left to be stored are the stitches from `at` on,
+-- `symbols::entries::put_stitches` meets its contract. The loop's invariant: what is left to be visited are the stitches from `at` on,
 -- they can be read, and their items are kept. Assumes nothing.
 use mathlib.Core.Path.{ap, refl}
 use mathlib.Core.List.{List, map}
@@ -10,47 +10,56 @@ use Rattle.searches.proofs.Viewed.{stitch-laid}
 use Rattle.searches.proofs.Readable.{no-stitch, stitch-readable}
 use Rattle.items.proofs.Kept.{stitch-rest, stitches-plain, stitches-from}
 use Rattle.symbols.specs.Placed.{stitch_placed}
-use Rattle.symbols.proofs.Stored.{storing-start, storing-end, storing-many}
+use Rattle.symbols.proofs.Visiting.{visiting-parts, visiting-end, visiting-ready, visiting-many}
 use Rattle.symbols.proofs.entries.put_stitches.Goals as goal
 
-pub loop-v-init : goal.loop-v-init
-loop-v-init c = ((c.requires.range.ordered, refl), (c.requires.file_value, c.requires.stitches_kept), storing-start)
+pub loop-s-init : goal.loop-s-init
+loop-s-init g c =
+    ((c.requires.name_in_bounds.1.ordered), (c.requires.file_value, c.requires.stitches_kept), visiting-parts g.met.V.Visit.laws refl c.requires.ready)
 
 pub stitch_view-requires : goal.stitch_view-requires
-stitch_view-requires c = (c.loop-v.invariant.0.0, c.requires.range.within)
+stitch_view-requires g c = (c.loop-s.invariant.0, c.requires.name_in_bounds.1.within)
 
-pub returns-in_default : goal.returns-in_default
-returns-in_default c =
-    let loop = c.loop-v in
-    storing-end loop.invariant.2 (ap (λ (ts : List Stitch). each (stitch_placed c.args.flow) (map stitch_without_plain ts)) (no-stitch c.args.file.now loop.at c.args.end loop.invariant.1.0 c.stitch_view.ensures c.in_default.is))
+pub returns : goal.returns
+returns g c =
+    visiting-end g.met.V.Visit.laws c.loop-s.invariant.2
+    (ap (λ (ts : List Stitch). each (stitch_placed c.args.v.name) (map stitch_without_plain ts))
+    (no-stitch c.args.file.now c.loop-s.at c.args.v.end c.loop-s.invariant.1.0 c.stitch_view.ensures c.in_default.is))
 
-pub put_stitch-count-requires : goal.put_stitch-count-requires
-put_stitch-count-requires c =
-    let loop = c.loop-v in
-    let stitch-view = c.stitch_view in
-    let l = stitch-laid c.args.file.now loop.at c.args.end c.in-View.v stitch-view.ensures c.in-View.is in record { name_lt_params = (l.name, omega (arith, c.requires.range.within), c.requires.range.short); rising = loop.invariant.1.1.rising }
+pub put_stitch-requires : goal.put_stitch-requires
+put_stitch-requires g c =
+    let file = c.args.file.now in
+    let loop = c.loop-s in
+    let r = c.requires.name_in_bounds.1 in
+    let view = c.stitch_view.ensures in
+    let l = stitch-laid file loop.at c.args.v.end c.in-Some.s view c.in-Some.is in record {
+      name_lt_params = (l.name, omega (arith, r.within), r.short);
+      rising = loop.invariant.1.1.rising;
+      ready = visiting-ready g.met.V.Visit.laws loop.invariant.2 _ _
+          (ap (each (stitch_placed c.args.v.name)) (stitches-plain file _ loop.at c.args.v.end loop.invariant.0 r.within r.short loop.invariant.1.0 loop.invariant.1.1 c.in-Some.s view c.in-Some.is))
+          c.requires.ready;
+    }
 
-pub items_from-next-requires : goal.items_from-next-requires
-items_from-next-requires c =
-    c.loop-v.invariant.1.1.rising
+pub items_from-rest-requires : goal.items_from-rest-requires
+items_from-rest-requires g c = c.loop-s.invariant.1.1.rising
 
-pub loop-v-smaller : goal.loop-v-smaller
-loop-v-smaller c =
-    let loop = c.loop-v in
-    let stitch-view = c.stitch_view in
-    let l = stitch-laid c.args.file.now loop.at c.args.end c.in-View.v stitch-view.ensures c.in-View.is in omega (arith, loop.invariant.0)
+pub loop-s-smaller : goal.loop-s-smaller
+loop-s-smaller g c =
+    let l = stitch-laid c.args.file.now c.loop-s.at c.args.v.end c.in-Some.s c.stitch_view.ensures c.in-Some.is in omega (arith, c.loop-s.invariant.0)
 
-pub loop-v-preserved : goal.loop-v-preserved
-loop-v-preserved c =
-    let loop = c.loop-v in
-    let stitch-view = c.stitch_view in
-    let l = stitch-laid c.args.file.now loop.at c.args.end c.in-View.v stitch-view.ensures c.in-View.is in (
-      omega (arith, loop.invariant.0, c.put_stitch-count.auto),
+pub loop-s-preserved : goal.loop-s-preserved
+loop-s-preserved g c =
+    let file = c.args.file.now in
+    let loop = c.loop-s in
+    let r = c.requires.name_in_bounds.1 in
+    let view = c.stitch_view.ensures in
+    let l = stitch-laid file loop.at c.args.v.end c.in-Some.s view c.in-Some.is in (
+      omega (arith, loop.invariant.0),
       (
-        (stitch-readable c.args.file.now loop.at c.args.end loop.invariant.1.0 stitch-view.ensures c.in-View.v c.in-View.is).rest,
-        stitches-from c.items_from-next.ensures (stitch-rest c.args.file.now _ loop.at c.args.end loop.invariant.0.0 c.requires.range.within c.requires.range.short loop.invariant.1.0 loop.invariant.1.1 c.in-View.v stitch-view.ensures c.in-View.is),
+        (stitch-readable file loop.at c.args.v.end loop.invariant.1.0 view c.in-Some.s c.in-Some.is).rest,
+        stitches-from c.items_from-rest.ensures (stitch-rest file _ loop.at c.args.v.end loop.invariant.0 r.within r.short loop.invariant.1.0 loop.invariant.1.1 c.in-Some.s view c.in-Some.is),
       ),
-      storing-many loop.invariant.2 _
-          (ap (each (stitch_placed c.args.flow)) (stitches-plain c.args.file.now _ loop.at c.args.end loop.invariant.0.0 c.requires.range.within c.requires.range.short loop.invariant.1.0 loop.invariant.1.1 c.in-View.v stitch-view.ensures c.in-View.is))
-          c.put_stitch-count.ensures,
+      visiting-many g.met.V.Visit.laws loop.invariant.2
+          (ap (each (stitch_placed c.args.v.name)) (stitches-plain file _ loop.at c.args.v.end loop.invariant.0 r.within r.short loop.invariant.1.0 loop.invariant.1.1 c.in-Some.s view c.in-Some.is))
+          c.put_stitch.ensures,
     )

@@ -1,10 +1,6 @@
--- `symbols::targets::find_entry` meets its contract. The loop's invariant: what is left of the search. Assumes nothing.
-use Prim.Native.Nat.{◌-◌}
+-- `symbols::targets::find_entry` meets its contract. The loop's invariant: the entries from number k on decide. Assumes nothing.
 use Rattle.symbols.proofs.Searched.{Left}
 use Rattle.symbols.proofs.targets.find_entry.Given as goal
 
 abbrev pub invariant-loop-k : goal.invariant-loop-k
-invariant-loop-k l = Left l.file l.index l.rest l.target l.count l.k l.exact l.ending
-
-abbrev pub decreases-loop-k : goal.decreases-loop-k
-decreases-loop-k l = l.count - l.k
+invariant-loop-k l = Left l.file l.index l.target l.count l.k l.exact l.ending

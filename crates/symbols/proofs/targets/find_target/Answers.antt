@@ -1,13 +1,7 @@
 -- `symbols::targets::find_target` meets its contract: an entry is found where some spelling answers. Assumes nothing.
-use mathlib.Core.Path.{sym, ◌∙◌, ap}
-use Rattle.symbols.specs.Rows.{is_found}
+use Rattle.std.proofs.Common.{◌∙◌, ap, is_some}
 use Rattle.symbols.proofs.Searched.{sought-either, first_any}
 use Rattle.symbols.proofs.targets.find_target.Goals as goal
 
-pub returns-in-At : goal.returns-in-At
-returns-in-At c =
-    ap is_found (sym c.in-At.is ∙ c.find_entry-found.ensures) ∙ first_any _ _ (sought-either c.args.target.now) _ _
-
-pub returns-in-Nowhere : goal.returns-in-Nowhere
-returns-in-Nowhere c =
-    ap is_found (sym c.in-Nowhere.is ∙ c.find_entry-found.ensures) ∙ first_any _ _ (sought-either c.args.target.now) _ _
+pub returns : goal.returns
+returns c = c.is_some.ensures ∙ ap is_some c.find_entry.ensures ∙ first_any _ _ (sought-either c.args.target.now) _ _

@@ -20,8 +20,8 @@ pub flow_view-requires : goal.flow_view-requires
 flow_view-requires c =
     let r = (readable c.args.file.now c.args.c refl c.requires).order in omega arith
 
-pub returns-in_default : goal.returns-in_default
-returns-in_default c =
+pub returns : goal.returns
+returns c =
     let loop = c.loop-v in
     filling-end _ _ _ loop.invariant.1 (no_flow c.args.file.now loop.at c.args.c.end loop.invariant.2 c.flow_view.ensures c.in_default.is)
 
@@ -29,7 +29,7 @@ pub put_flow-requires : goal.put_flow-requires
 put_flow-requires c =
     let loop = c.loop-v in
     let flow-view = c.flow_view in
-    let l = flow-laid c.args.file.now loop.at c.args.c.end c.in-View.v flow-view.ensures c.in-View.is in
+    let l = flow-laid c.args.file.now loop.at c.args.c.end c.in-Some.v flow-view.ensures c.in-Some.is in
     let r = (readable c.args.file.now c.args.c refl c.requires).order in
     omega (arith, loop.invariant.1.room)
 
@@ -37,17 +37,17 @@ pub loop-v-smaller : goal.loop-v-smaller
 loop-v-smaller c =
     let loop = c.loop-v in
     let flow-view = c.flow_view in
-    let l = flow-laid c.args.file.now loop.at c.args.c.end c.in-View.v flow-view.ensures c.in-View.is in
+    let l = flow-laid c.args.file.now loop.at c.args.c.end c.in-Some.v flow-view.ensures c.in-Some.is in
     omega (arith, loop.invariant.0)
 
 pub loop-v-preserved : goal.loop-v-preserved
 loop-v-preserved c =
     let loop = c.loop-v in
     let flow-view = c.flow_view in
-    let l = flow-laid c.args.file.now loop.at c.args.c.end c.in-View.v flow-view.ensures c.in-View.is in (
+    let l = flow-laid c.args.file.now loop.at c.args.c.end c.in-Some.v flow-view.ensures c.in-Some.is in (
       omega (arith, loop.invariant.0),
-      filling-next loop.invariant.1 c.in-View.v
-          (flow-viewed c.args.file.now loop.at c.args.c.end c.in-View.v flow-view.ensures c.in-View.is)
+      filling-next loop.invariant.1 c.in-Some.v
+          (flow-viewed c.args.file.now loop.at c.args.c.end c.in-Some.v flow-view.ensures c.in-Some.is)
           c.put_flow.ensures,
-      (flow-readable c.args.file.now loop.at c.args.c.end loop.invariant.2 flow-view.ensures c.in-View.v c.in-View.is).rest,
+      (flow-readable c.args.file.now loop.at c.args.c.end loop.invariant.2 flow-view.ensures c.in-Some.v c.in-Some.is).rest,
     )

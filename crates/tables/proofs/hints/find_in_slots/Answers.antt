@@ -1,20 +1,15 @@
--- `tables::hints::find_in_slots` meets its contract: only an entry that answers makes the answer yes. The loop's invariant: the slot
--- is one of the table's. Assumes nothing.
-use native.Mathlib.Omega.{arith}
-use Rattle.tables.proofs.Answering.{not-answered, answered-yes}
+-- `tables::hints::find_in_slots` meets its contract. Assumes nothing.
+use mathlib.Core.Bool.{Bool}
+use Prim.Native.Nat.{ℕ}
+use Rattle.symbols.specs.Rows.{spellings_in}
+use Rattle.tables.specs.Hints.{Answered}
+use Rattle.tables.proofs.Ending.{ends-met}
+use Rattle.tables.proofs.Answering.{not-answered}
 use Rattle.tables.proofs.hints.find_in_slots.Goals as goal
 
-pub returns-then-table-eq0 : goal.returns-then-table-eq0
-returns-then-table-eq0 c = not-answered
+pub returns-in-Found : goal.returns-in-Found
+returns-in-Found c =
+    (ends-met (λ (n : ℕ) (b : Bool). Answered c.args.target.now (spellings_in c.args.file.now c.args.count c.args.index.now) b) c.args.table.now 8 _ (rw c.in-Found.is at c.seek-found.ensures.ends)).1
 
-pub overflow_cast-number : goal.overflow_cast-number
-overflow_cast-number c = omega (arith, c.type_inv.table c.loop-left.slot)
-
-pub returns-then-number-eq0 : goal.returns-then-number-eq0
-returns-then-number-eq0 c = not-answered
-
-pub returns-then-entry_answers : goal.returns-then-entry_answers
-returns-then-entry_answers c = answered-yes c.entry_answers.ensures c.if-entry_answers.true
-
-pub returns : goal.returns
-returns c = not-answered
+pub returns-in_default : goal.returns-in_default
+returns-in_default c = not-answered

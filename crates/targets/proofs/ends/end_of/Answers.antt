@@ -4,14 +4,8 @@ use Rattle.targets.proofs.Dotted.{passing-start, passing-end, passing-short, pas
 use Rattle.targets.proofs.ends.end_of.Goals as goal
 use Rattle.targets.proofs.ends.end_of.Goals.{then-rest-eq46, else-rest-eq46}
 
-pub loop-left-init : goal.loop-left-init
-loop-left-init c = passing-start _ _
-
 pub returns-then-rest-eq0 : goal.returns-then-rest-eq0
 returns-then-rest-eq0 c = passing-short c.loop-left.invariant c.if-rest-eq0.true
-
-pub loop-left-smaller : goal.loop-left-smaller
-loop-left-smaller c = cut-shorter c.loop-left.rest.now c.if-rest-eq0.false
 
 pub loop-left-preserved : goal.loop-left-preserved
 loop-left-preserved c =

@@ -5,9 +5,5 @@ use Rattle.targets.proofs.entries.put_from.Goals as goal
 pub returns-then-at-eq-ABSENT : goal.returns-then-at-eq-ABSENT
 returns-then-at-eq-ABSENT c = from-none c.args.file.now _ c.if-at-eq-ABSENT.true c.requires.reachable
 
-pub put_ends-requires : goal.put_ends-requires
-put_ends-requires c =
-    record { parts_fit = record { first_fits = place-fits c.requires.name_fits.0 c.if-at-eq-ABSENT.false; second_fits = c.requires.name_fits.1; third_fits = c.requires.name_fits.2 }; reachable = c.requires.reachable }
-
 pub returns : goal.returns
 returns c = from_some c.args.file.now _ c.if-at-eq-ABSENT.false c.put_ends.ensures

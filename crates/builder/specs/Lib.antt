@@ -1,0 +1,2 @@
+-- The definitions of a file that is put together in a lent buffer.
+pub mod Building

@@ -1,0 +1,14 @@
+-- `validate_root_gathers`: the passes find what they find at the root. Assumes nothing.
+use mathlib.Core.Path.{refl}
+use Rattle.filters.proofs.Bodies.{declared-none}
+use Rattle.context.proofs.Places.{root-ready}
+use Rattle.context.proofs.context.validate_root_gathers.Goals as goal
+
+pub invariant_of-body : goal.invariant_of-body
+invariant_of-body c = record { ready = rw c.root_scope-scope.ensures (root-ready c.requires c.args.index.now.story.source.in_order) }
+
+pub invariant_of-place : goal.invariant_of-place
+invariant_of-place c = record { covers = declared-none _ refl }
+
+pub returns : goal.returns
+returns c = rw c.root_scope-scope.ensures at c.validate_passes.ensures

@@ -1,9 +1,0 @@
--- The place stays within the bytes, and what is left of them falls.
-use Rattle.std.proofs.Common.{◌-◌, ◌≤◌, length}
-use Rattle.lookup_runs.proofs.listed.find_byte.Given as goal
-
-abbrev pub invariant-loop-at : goal.invariant-loop-at
-invariant-loop-at l = (l.from ≤ l.at) × (l.at ≤ length l.s)
-
-abbrev pub decreases-loop-at : goal.decreases-loop-at
-decreases-loop-at l = length l.s - l.at

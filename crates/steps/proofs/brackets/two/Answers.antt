@@ -1,8 +1,0 @@
--- `steps::brackets::two` meets its contract. Assumes nothing.
-use mathlib.Core.Path.{refl}
-use Rattle.steps.specs.Brackets.{rules_in}
-use Rattle.steps.proofs.brackets.two.Goals as goal
-
-pub returns : goal.returns
-unfolding rules_in
-returns c = refl
