@@ -8,12 +8,12 @@ ghost use Rattle.broken.specs.Scopes.{known_in, broken_at};
 
 use crate::asked::Asked;
 use names::{is_builtin_function, passes};
-use records::sorts::{ARGUMENT, CALL};
+use records::sorts::Sort;
 
 impl Asked<'_, '_> {
     // Rule 1: a function diverted to.
     #[tactic(auto, unfolding(rules::specs::Rules::broken, crate::specs::Scopes::here_in))]
-    pub(crate) fn is_function_diverted_to(&self) -> bool
+    pub fn is_function_diverted_to(&self) -> bool
         ensures { (w : What) → ThingIs self.now.story.now.file.now self.now.at.thing w → result ≡ broken_at self.now.story.now.view.sections self.now.story.now.file.now self.now.story.now.kept.now self.now.at Rule.FunctionDivertedTo w }
     {
         if self.at.thing.has_target() {
@@ -25,7 +25,7 @@ impl Asked<'_, '_> {
 
     // Rule 2: a target that is not found.
     #[tactic(auto, unfolding(rules::specs::Rules::broken, crate::specs::Scopes::here_in))]
-    pub(crate) fn is_target_not_found(&self) -> bool
+    pub fn is_target_not_found(&self) -> bool
         ensures { (w : What) → ThingIs self.now.story.now.file.now self.now.at.thing w → result ≡ broken_at self.now.story.now.view.sections self.now.story.now.file.now self.now.story.now.kept.now self.now.at Rule.TargetNotFound w }
     {
         if self.at.thing.has_target() {
@@ -44,10 +44,10 @@ impl Asked<'_, '_> {
 
     // Rule 3: a flow called that is no function.
     #[tactic(auto, unfolding(rules::specs::Rules::broken, crate::specs::Scopes::here_in))]
-    pub(crate) fn is_flow_called(&self) -> bool
+    pub fn is_flow_called(&self) -> bool
         ensures { (w : What) → ThingIs self.now.story.now.file.now self.now.at.thing w → result ≡ broken_at self.now.story.now.view.sections self.now.story.now.file.now self.now.story.now.kept.now self.now.at Rule.FlowCalled w }
     {
-        if self.at.thing.is(CALL) {
+        if self.at.thing.is(Sort::Call) {
             let name = self.name();
             return !self.call_passes(name) && self.is_flow(name);
         }
@@ -56,7 +56,7 @@ impl Asked<'_, '_> {
 
     // Rule 8: a target that is a parameter without divert mark.
     #[tactic(auto, unfolding(rules::specs::Rules::broken, crate::specs::Scopes::here_in))]
-    pub(crate) fn is_parameter_unmarked(&self) -> bool
+    pub fn is_parameter_unmarked(&self) -> bool
         ensures { (w : What) → ThingIs self.now.story.now.file.now self.now.at.thing w → result ≡ broken_at self.now.story.now.view.sections self.now.story.now.file.now self.now.story.now.kept.now self.now.at Rule.ParameterUnmarked w }
     {
         if self.at.thing.has_target() {
@@ -68,9 +68,9 @@ impl Asked<'_, '_> {
 
     // Rule 9: an argument that is directly a DivertTarget of a divert parameter.
     #[tactic(auto, unfolding(rules::specs::Rules::broken, crate::specs::Scopes::here_in))]
-    pub(crate) fn is_parameter_already_marked(&self) -> bool
+    pub fn is_parameter_already_marked(&self) -> bool
         ensures { (w : What) → ThingIs self.now.story.now.file.now self.now.at.thing w → result ≡ broken_at self.now.story.now.view.sections self.now.story.now.file.now self.now.story.now.kept.now self.now.at Rule.ParameterAlreadyMarked w }
     {
-        self.at.thing.is(ARGUMENT) && self.is_marked(self.name())
+        self.at.thing.is(Sort::Argument) && self.is_marked(self.name())
     }
 }

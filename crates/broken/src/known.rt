@@ -19,7 +19,7 @@ pub fn is_counted(file: &[u8], at: usize, name: &[u8]) -> bool
 
 impl<'a> Asked<'_, 'a> {
     // The thing's name.
-    pub(crate) fn name(&self) -> &'a [u8]
+    pub fn name(&self) -> &'a [u8]
         ensures { result.now ≡ counted.name_at self.now.story.now.file.now self.now.at.thing.name }
     {
         name_at(self.story.file, self.at.thing.name)
@@ -27,7 +27,7 @@ impl<'a> Asked<'_, 'a> {
 
     // The name is a function's.
     #[tactic(auto, using(crate::proofs::Answered::function_asked))]
-    pub(crate) fn is_function(&self, name: &[u8]) -> bool
+    pub fn is_function(&self, name: &[u8]) -> bool
         ensures { result ≡ (known_in self.now.story.now.view.sections self.now.story.now.file.now).function name.now }
     {
         let v = self.story.view;
@@ -36,7 +36,7 @@ impl<'a> Asked<'_, 'a> {
 
     // The name is a flow's.
     #[tactic(auto, using(crate::proofs::Answered::flow_asked))]
-    pub(crate) fn is_flow(&self, name: &[u8]) -> bool
+    pub fn is_flow(&self, name: &[u8]) -> bool
         ensures { result ≡ (known_in self.now.story.now.view.sections self.now.story.now.file.now).flow name.now }
     {
         let v = self.story.view;
@@ -45,7 +45,7 @@ impl<'a> Asked<'_, 'a> {
 
     // The name is a global's.
     #[tactic(auto, using(crate::proofs::Answered::global_asked))]
-    pub(crate) fn is_global(&self, name: &[u8]) -> bool
+    pub fn is_global(&self, name: &[u8]) -> bool
         ensures { result ≡ (known_in self.now.story.now.view.sections self.now.story.now.file.now).global name.now }
     {
         let v = self.story.view;
@@ -54,7 +54,7 @@ impl<'a> Asked<'_, 'a> {
 
     // The name is an external's.
     #[tactic(auto, using(crate::proofs::Answered::external_asked))]
-    pub(crate) fn is_external(&self, name: &[u8]) -> bool
+    pub fn is_external(&self, name: &[u8]) -> bool
         ensures { result ≡ (known_in self.now.story.now.view.sections self.now.story.now.file.now).external name.now }
     {
         let v = self.story.view;
@@ -62,7 +62,7 @@ impl<'a> Asked<'_, 'a> {
     }
 
     // The target is valid, or some spelling ends in "." and the target: by the set, or by going through the entries where one is not in it.
-    pub(crate) fn is_target(&self, target: &[u8]) -> bool
+    pub fn is_target(&self, target: &[u8]) -> bool
         ensures { result ≡ (known_in self.now.story.now.view.sections self.now.story.now.file.now).target target.now }
     {
         let v = self.story.view;
@@ -79,14 +79,14 @@ impl<'a> Asked<'_, 'a> {
     }
 
     // The name is a parameter of the flow or the stitch.
-    pub(crate) fn is_parameter(&self, name: &[u8]) -> bool
+    pub fn is_parameter(&self, name: &[u8]) -> bool
         ensures { result ≡ counted_at self.now.story.now.file.now self.now.at.scope.params name.now }
     {
         is_counted(self.story.file, self.at.scope.params, name)
     }
 
     // The name is a divert parameter of the flow or the stitch.
-    pub(crate) fn is_marked(&self, name: &[u8]) -> bool
+    pub fn is_marked(&self, name: &[u8]) -> bool
         ensures { result ≡ counted_at self.now.story.now.file.now self.now.at.scope.marks name.now }
     {
         is_counted(self.story.file, self.at.scope.marks, name)

@@ -8,6 +8,7 @@ pub mod structure;
 pub mod things;
 pub mod variables;
 
+use records::sorts::Sort;
 use sets::known::Names;
 use story::Sections;
 
@@ -48,7 +49,7 @@ pub struct Rests {
 // What a step visits: its sort, the place of its name, whether it stands in a branch, and whether it is a choice that leaves.
 #[derive(Clone, Copy)]
 pub struct Thing {
-    pub sort: u8,
+    pub sort: Sort,
     pub name: usize,
     pub branch: bool,
     pub leaves: bool,

@@ -11,7 +11,7 @@ ghost use Rattle.broken.specs.Scopes.{declared_in, broken_at};
 use crate::asked::Asked;
 use crate::known::is_counted;
 use items::named::Sought;
-use records::sorts::VARIABLE;
+use records::sorts::Sort;
 use sets::Class;
 use sets::members::has_among;
 
@@ -50,10 +50,10 @@ fn is_declared(
 impl Asked<'_, '_> {
     // Rule 15: a variable that the knot declares and the stitch does not.
     #[tactic(auto, unfolding(rules::specs::Rules::broken, crate::specs::Scopes::here_in))]
-    pub(crate) fn is_variable_forbidden(&self) -> bool
+    pub fn is_variable_forbidden(&self) -> bool
         ensures { (w : What) → ThingIs self.now.story.now.file.now self.now.at.thing w → result ≡ broken_at self.now.story.now.view.sections self.now.story.now.file.now self.now.story.now.kept.now self.now.at Rule.VariableForbidden w }
     {
-        if self.at.thing.is(VARIABLE) {
+        if self.at.thing.is(Sort::Variable) {
             let s = self.at.scope;
             let n = self.at.rests;
             let name = self.name();

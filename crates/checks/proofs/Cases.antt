@@ -10,7 +10,8 @@ use Rattle.fields.specs.Bytes.{pick}
 use Rattle.names.specs.Words.{same, any}
 use Rattle.names.specs.Reserved.{END, DONE}
 use Rattle.names.specs.Targets.{passes}
-use Rattle.records.specs.Items.{temp, divert, variable, argument, call, choice, gather, parameter, stitch_name, flow_start, code, What, is}
+use Rattle.records.specs.declared.sorts.Sort.TheVariants.{Temp as temp, Divert as divert, Variable as variable, Argument as argument, Call as call, Choice as choice, Gather as gather, Parameter as parameter, StitchName as stitch_name, FlowStart as flow_start}
+use Rattle.records.specs.Items.{code, What, is}
 use Rattle.story.specs.Story.{Name, Story}
 use Rattle.rules.specs.declared.Rule.TheVariants.{FunctionDivertedTo, TargetNotFound, FlowCalled, NameIsFunction, TempIsParameter, TempIsLabel, ParameterUnmarked, ParameterAlreadyMarked, GatherRepeated, ChoiceUndiverted, FunctionWithStitches, FunctionWithChoice, FunctionWithDivert, VariableForbidden}
 use Rattle.rules.specs.Rules.{Known, Here, target, call_passes, broken, here, root}

@@ -6,7 +6,8 @@ use Prim.Native.Nat.{ℕ, ◌≤◌}
 use Rattle.fields.specs.Bytes.{pick}
 use Rattle.names.specs.Words.{same}
 use Rattle.names.specs.Reserved.{END, DONE}
-use Rattle.records.specs.Items.{temp, divert, choice, code, What, is}
+use Rattle.records.specs.declared.sorts.Sort.TheVariants.{Temp as temp, Divert as divert, Choice as choice}
+use Rattle.records.specs.Items.{code, What, is}
 use Rattle.records.specs.Numbers.{item_in}
 use Rattle.story.proofs.Unpacked.{number-record}
 use Rattle.items.proofs.Sorts.{item-sort}

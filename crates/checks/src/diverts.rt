@@ -13,7 +13,7 @@ use crate::structure::{has_target, is_sort};
 use crate::view::{IndexView, StoryView};
 use items::items::item_name;
 use names::{is_builtin_function, passes};
-use records::sorts::{ARGUMENT, CALL};
+use records::sorts::Sort;
 use rules::Rule;
 
 impl IndexView<'_> {
@@ -64,7 +64,7 @@ impl StoryView<'_> {
     pub fn validate_node_function_calls(&self, item: u32) -> Option<Rule>
         ensures { (h : Here) (before : List What) → result ≡ judged_by (known_in self.now.source.sections self.now.source.file.now) h calls before (item_in self.now.source.file.now item).what }
     {
-        if is_sort(item, CALL) {
+        if is_sort(item, Sort::Call) {
             return self.check_function_call_target(item_name(self.source.file, item));
         }
         None
@@ -108,7 +108,7 @@ pub fn validate_node_variable_divert_target(
     if has_target(item) {
         return check_variable_divert_target(file, scope, item_name(file, item));
     }
-    if is_sort(item, ARGUMENT) {
+    if is_sort(item, Sort::Argument) {
         return check_divert_target_arg(file, scope, item_name(file, item));
     }
     None

@@ -1,6 +1,6 @@
 // Choices, functions, parameters and stitch names: rules 4, 5 and 11 to 14 (structure.rs).
-ghost use Rattle.std.specs.Prelude.{◌≡◌, List, ℕ, eqb};
-ghost use Rattle.records.specs.Items.{What, code};
+ghost use Rattle.std.specs.Prelude.{◌≡◌, List, ℕ};
+ghost use Rattle.records.specs.Items.{What, is};
 ghost use Rattle.records.specs.Numbers.{item_in};
 ghost use Rattle.rules.specs.Rules.{Known, Here, target};
 ghost use Rattle.rules.specs.Steps.{bracket, Step, choices};
@@ -10,12 +10,13 @@ ghost use Rattle.checks.specs.Context.{known_in};
 use crate::view::{FileView, StoryView};
 use items::items::{choice_has_explicit_divert, in_branch, item_name, sort_in};
 use names::is_end_or_done;
-use records::sorts::{CHOICE, DIVERT, THREAD, TUNNEL};
+use records::sorts::Sort;
 use rules::Rule;
 
 // The item is of the sort.
-pub fn is_sort(item: u32, sort: u8) -> bool
-    ensures { (file : List ℕ) → result ≡ eqb sort (code (item_in file item).what.kind) }
+#[tactic(auto, using(records::proofs::Codes::same_code))]
+pub fn is_sort(item: u32, sort: Sort) -> bool
+    ensures { (file : List ℕ) → result ≡ is sort (item_in file item).what }
 {
     sort == sort_in(item)
 }
@@ -24,7 +25,7 @@ pub fn is_sort(item: u32, sort: u8) -> bool
 pub fn has_target(item: u32) -> bool
     ensures { (file : List ℕ) → result ≡ target (item_in file item).what }
 {
-    is_sort(item, DIVERT) || is_sort(item, TUNNEL) || is_sort(item, THREAD)
+    is_sort(item, Sort::Divert) || is_sort(item, Sort::Tunnel) || is_sort(item, Sort::Thread)
 }
 
 // A choice directly in a branch that does not leave it: rule 11.
@@ -32,7 +33,7 @@ pub fn has_target(item: u32) -> bool
 pub fn check_no_direct_choice_in_branch(item: u32) -> Option<Rule>
     ensures { (file : List ℕ) (k : Known) (h : Here) (before : List What) → result ≡ judged_by k h choices before (item_in file item).what }
 {
-    if is_sort(item, CHOICE) && in_branch(item) && !choice_has_explicit_divert(item) {
+    if is_sort(item, Sort::Choice) && in_branch(item) && !choice_has_explicit_divert(item) {
         return Some(Rule::ChoiceUndiverted);
     }
     None
@@ -43,10 +44,10 @@ pub fn check_no_direct_choice_in_branch(item: u32) -> Option<Rule>
 pub fn check_function_body_purity(file: &[u8], item: u32) -> Option<Rule>
     ensures { (k : Known) (h : Here) (before : List What) → result ≡ judged_by k h (bracket Step.s5) before (item_in file.now item).what }
 {
-    if is_sort(item, CHOICE) {
+    if is_sort(item, Sort::Choice) {
         return Some(Rule::FunctionWithChoice);
     }
-    if is_sort(item, DIVERT) && !is_end_or_done(item_name(file, item)) {
+    if is_sort(item, Sort::Divert) && !is_end_or_done(item_name(file, item)) {
         return Some(Rule::FunctionWithDivert);
     }
     None

@@ -4,7 +4,8 @@ use mathlib.Core.Path.{◌≡◌, refl, ap}
 use mathlib.Core.List.{List, [], ◌∷◌, ◌++◌}
 use Prim.Native.Nat.{ℕ}
 use Rattle.fields.specs.Bytes.{pick}
-use Rattle.records.specs.Items.{What, Item, flow_start}
+use Rattle.records.specs.declared.sorts.Sort.TheVariants.{FlowStart as flow_start}
+use Rattle.records.specs.Items.{What, Item}
 use Rattle.story.specs.Story.{Story, Name}
 use Rattle.rules.specs.declared.Rule.{Rule}
 use Rattle.rules.specs.declared.Rule.TheVariants.{FunctionWithStitches}

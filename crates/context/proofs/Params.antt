@@ -9,7 +9,7 @@ use lib.Seq.{drop-drop, get_or-drop}
 use Rattle.names.specs.Words.{Bytes}
 use Rattle.names.specs.Counted.{name_at}
 use Rattle.story.specs.declared.Sections.{Sections}
-use Rattle.records.specs.Items.{parameter, stitch_name}
+use Rattle.records.specs.declared.sorts.Sort.TheVariants.{Parameter as parameter, StitchName as stitch_name}
 use Rattle.story.specs.Story.{Name}
 use Rattle.story.specs.Flows.{names_n, counted_in}
 use Rattle.story.proofs.Unfolding.{names-n-zero, names-n-none}

@@ -8,7 +8,8 @@ use lib.ListN.{length}
 use Rattle.fields.specs.Bytes.{pick}
 use Rattle.names.specs.Words.{any, each}
 use Rattle.story.specs.declared.Sections.{Sections}
-use Rattle.records.specs.Items.{Item, flow_start}
+use Rattle.records.specs.declared.sorts.Sort.TheVariants.{FlowStart as flow_start}
+use Rattle.records.specs.Items.{Item}
 use Rattle.story.specs.Story.{Stitch, Flow, Story}
 use Rattle.story.specs.Plain.{without_plain}
 use Rattle.story.specs.File.{story_in}

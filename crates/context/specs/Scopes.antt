@@ -4,7 +4,7 @@ use Rattle.names.specs.Words.{Bytes, any, each}
 use Rattle.names.specs.Counted.{name_at}
 use Rattle.records.specs.Trace.{well, ends}
 use Rattle.story.specs.declared.Sections.{Sections}
-use Rattle.records.specs.Items.{stitch_name}
+use Rattle.records.specs.declared.sorts.Sort.TheVariants.{StitchName as stitch_name}
 use Rattle.story.specs.Story.{Name, Stitch, Flow}
 use Rattle.story.specs.Flows.{flows, part, flows_in}
 use Rattle.story.specs.Plain.{flow_without_plain}

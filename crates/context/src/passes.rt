@@ -23,7 +23,7 @@ use filters::gathers::{check_gather_label, pass_item};
 use filters::words::clear_filter;
 use items::items::{named_at, place_in};
 use items::runs::body_items;
-use records::sorts::{ARGUMENT, CALL, CHOICE, DIVERT, GATHER, TEMP, VARIABLE};
+use records::sorts::Sort;
 use rules::Rule;
 
 // Steps 1 to 4.
@@ -70,14 +70,14 @@ fn is_concerned(pass: Pass, item: u32) -> bool
     ensures { result ≡ false → (file : List ℕ) (k : Known) (h : Here) (before : List What) → None ≡ judged_by k h (rules_of pass) before (item_in file item).what }
 {
     match pass {
-        Pass::Temps => is_sort(item, TEMP),
+        Pass::Temps => is_sort(item, Sort::Temp),
         Pass::Targets => has_target(item),
-        Pass::Calls => is_sort(item, CALL),
-        Pass::Choices => is_sort(item, CHOICE),
-        Pass::VariableDiverts => has_target(item) || is_sort(item, ARGUMENT),
-        Pass::Variables => is_sort(item, VARIABLE),
-        Pass::Gathers => is_sort(item, GATHER),
-        Pass::Purity => is_sort(item, CHOICE) || is_sort(item, DIVERT),
+        Pass::Calls => is_sort(item, Sort::Call),
+        Pass::Choices => is_sort(item, Sort::Choice),
+        Pass::VariableDiverts => has_target(item) || is_sort(item, Sort::Argument),
+        Pass::Variables => is_sort(item, Sort::Variable),
+        Pass::Gathers => is_sort(item, Sort::Gather),
+        Pass::Purity => is_sort(item, Sort::Choice) || is_sort(item, Sort::Divert),
     }
 }
 

@@ -10,7 +10,8 @@ use lib.Seq.{take_all, take_at, drop_at}
 use borrow.Rule.Slice.PartMut.{put_mid}
 use Rattle.names.specs.Words.{Bytes, same, any, each, one_of}
 use Rattle.names.proofs.Any.{any-only, any-each, any_same}
-use Rattle.records.specs.Items.{temp, gather, code, What, is}
+use Rattle.records.specs.declared.sorts.Sort.TheVariants.{Temp as temp, Gather as gather}
+use Rattle.records.specs.Items.{What, is}
 use Rattle.story.specs.Story.{words, whats}
 use Rattle.story.specs.Flows.{counted_in}
 use Rattle.records.specs.Numbers.{item_in, between}
@@ -39,13 +40,13 @@ wanted-tests v ws n = sym (any-each (same n) (named v) ws ∙ any_same _ _ (want
 module _ (file kept : List ℕ) (from to : ℕ) {items : List ℕ} (run : items ≡ between from to kept) where
   -- the parameters were added, and then the temps
   pub names_put : (params : ℕ) (start : List ℕ) {begun filter : List ℕ} → begun ≡ added_all start (words (counted_in 0 (take (length file - params) (drop params file))))
-      → filter ≡ added_all begun (each (named (Sort (code temp))) (whats (items_at file items))) → Covers filter (declared_at file kept params from to)
+      → filter ≡ added_all begun (each (named (Sort temp)) (whats (items_at file items))) → Covers filter (declared_at file kept params from to)
   names_put params start {begun} e f =
       let params-covered : Covers begun (counted_at file params)
       = rw e (covers-same (holds-all _ start) (counted_at file params) (λ n. sym (counted-answer file n params refl))) in
       let temps-covered : Covers _ (temp_in (kept_in file kept from to))
-      = covers-same (holds-all _ begun) (temp_in (kept_in file kept from to)) (wanted-tests (Sort (code temp)) (whats (kept_in file kept from to))) in
-      rw (f, run) (covers-or (covers-all (each (named (Sort (code temp))) (whats (kept_in file kept from to))) params-covered) temps-covered)
+      = covers-same (holds-all _ begun) (temp_in (kept_in file kept from to)) (wanted-tests (Sort temp) (whats (kept_in file kept from to))) in
+      rw (f, run) (covers-or (covers-all (each (named (Sort temp)) (whats (kept_in file kept from to))) params-covered) temps-covered)
 
   -- the labels were added
   pub labels_put : (start : List ℕ) {filter : List ℕ} → filter ≡ added_all start (each (named Label) (whats (items_at file items))) → Covers filter (label_at file kept from to)
@@ -116,9 +117,9 @@ module _ {file kept : List ℕ} {from to i : ℕ} {filter : List ℕ} (gathered 
       → Gathered file kept from to (i + 1) after
   unfolding passed
   gathered_next {items} run h e =
-      let names = named (Sort (code gather)) (item_in file (get_or items i 0)).what in
+      let names = named (Sort gather) (item_in file (get_or items i 0)).what in
       let next : (n : Bytes) → gather_among (take (i + 1) (whats (items_at file items))) n ≡ gather_among (take i (whats (items_at file items))) n || one_of n names
-      = λ n. rw (add-one i, wanted-test (Sort (code gather)) n (item_in file (get_or items i 0)).what) (among_next (λ (v : What). is gather v && same n v.name) file items i h) in
+      = λ n. rw (add-one i, wanted-test (Sort gather) n (item_in file (get_or items i 0)).what) (among_next (λ (v : What). is gather v && same n v.name) file items i h) in
       let both = covers-or (covers-all names (rw (← run) at gathered.covers)) (holds-all names filter) in
       record { covers = rw (e, ← run) (covers-same both (gather_among (take (i + 1) (whats (items_at file items)))) next) }
 

@@ -2,7 +2,8 @@
 use Rattle.std.specs.Prelude.{ℕ, ◌/◌, Bool, List, eqb, length, take, drop}
 use Rattle.fields.specs.Bytes.{pick}
 use Rattle.names.specs.Words.{Bytes}
-use Rattle.records.specs.Items.{gather, code, What}
+use Rattle.records.specs.declared.sorts.Sort.TheVariants.{Gather as gather}
+use Rattle.records.specs.Items.{What}
 use Rattle.story.specs.Story.{whats}
 use Rattle.items.specs.Bodies.{kept_in}
 use Rattle.items.specs.Search.{label_in, gather_among}
@@ -30,4 +31,4 @@ pub record Gathered (file kept : List ℕ) (from to i : ℕ) (filter : List ℕ)
 
 -- the filter after an item was passed: a gather's name is added
 unfoldable pub passed : List ℕ → What → List ℕ
-passed filter w = added_all filter (named (Sort (code gather)) w)
+passed filter w = added_all filter (named (Sort gather) w)

@@ -1,7 +1,7 @@
 -- A filter: bytes, one for each slot. A word that was added has a 1 at its slot. Assumes nothing.
 use Rattle.std.specs.Prelude.{ℕ, ◌≡◌, Bool, true, false, List, [], ◌∷◌, eqb, get_or, set}
 use Rattle.names.specs.Words.{Bytes, only, one_of}
-use Rattle.records.specs.Items.{What, code}
+use Rattle.records.specs.Items.{What, is}
 use Rattle.tables.specs.Tables.{slot_of}
 use Rattle.filters.specs.declared.Wanted.{Wanted}
 use Rattle.filters.specs.declared.Wanted.TheVariants.{Sort, Label}
@@ -21,7 +21,7 @@ lacks filter w = eqb (get_or filter (slot_of filter w) 1) 0
 
 -- the item is one of those wanted: one of the sort, or one with a label
 abbrev pub wants : Wanted → What → Bool
-wants (Sort sort) w = eqb sort (code w.kind)
+wants (Sort sort) w = is sort w
 wants Label w = w.labels
 
 -- the name of an item that is wanted, and nothing of any other

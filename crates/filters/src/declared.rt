@@ -18,7 +18,7 @@ use checks::ScopeView;
 use checks::structure::is_sort;
 use items::items::item_name;
 use items::runs::body_items;
-use records::sorts::{TEMP, VARIABLE};
+use records::sorts::Sort;
 use rules::Rule;
 
 // Empties the filter, and adds the parameters and the temps of the body. One without slots stays.
@@ -33,7 +33,12 @@ fn put_names(file: &[u8], kept: &[u32], params: usize, from: usize, to: usize, f
     }
     clear_filter(filter);
     add_counted(filter, &file[params..]);
-    add_items(filter, Wanted::Sort(TEMP), file, body_items(kept, from, to));
+    add_items(
+        filter,
+        Wanted::Sort(Sort::Temp),
+        file,
+        body_items(kept, from, to),
+    );
 }
 
 // The first part gets the parameters and the temps of the knot's body, the second its labels and those of the stitches after it.
@@ -74,7 +79,7 @@ impl DeclaredView<'_, '_> {
     pub fn validate_node_vars(&self, item: u32) -> Option<Rule>
         ensures { (k : Known) (before : List What) → result ≡ judged_by k (here_at self.now.body.file.now self.now.body.kept.now self.now.body.scope) (bracket Step.s17) before (item_in self.now.body.file.now item).what }
     {
-        if is_sort(item, VARIABLE) && self.is_forbidden_in(item_name(self.body.file, item)) {
+        if is_sort(item, Sort::Variable) && self.is_forbidden_in(item_name(self.body.file, item)) {
             return Some(Rule::VariableForbidden);
         }
         None

@@ -17,7 +17,7 @@ use checks::structure::is_sort;
 use items::items::item_name;
 use items::named::has_gather_before;
 use items::runs::body_items;
-use records::sorts::GATHER;
+use records::sorts::Sort;
 use rules::Rule;
 
 // Adds the name of the item where it is a gather.
@@ -25,7 +25,7 @@ use rules::Rule;
 pub fn pass_item(file: &[u8], item: u32, filter: &mut [u8])
     ensures { filter.new ≡ passed filter.old (item_in file.now item).what }
 {
-    add_item(filter, Wanted::Sort(GATHER), file, item);
+    add_item(filter, Wanted::Sort(Sort::Gather), file, item);
 }
 
 // The name is the label of a gather before item number i of the body. Not searched for where the filter lacks it.
@@ -60,7 +60,7 @@ pub fn check_gather_label(
     requires gathered { Gathered file.now kept.now from to slot.number filter.now }
     ensures { (k : Known) (h : Here) → result ≡ judged_by k h gathers (take slot.number (whats (kept_in file.now kept.now from to))) (what_at file.now slot) }
 {
-    if is_sort(slot.item, GATHER) {
+    if is_sort(slot.item, Sort::Gather) {
         let name = item_name(file, slot.item);
         if has_gather_in(file, kept, from, to, slot.number, filter, name) {
             return Some(Rule::GatherRepeated);

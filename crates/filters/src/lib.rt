@@ -8,9 +8,11 @@ pub mod temps;
 pub mod view;
 pub mod words;
 
+use records::sorts::Sort;
+
 // The items whose names are added to a filter: those of one sort, or those with a label.
 #[derive(Clone, Copy)]
 pub enum Wanted {
-    Sort(u8),
+    Sort(Sort),
     Label,
 }

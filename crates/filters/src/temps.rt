@@ -11,7 +11,7 @@ use checks::parameters::is_counted;
 use checks::structure::is_sort;
 use checks::view::StoryView;
 use items::items::item_name;
-use records::sorts::TEMP;
+use records::sorts::Sort;
 use rules::Rule;
 
 impl DeclaredView<'_, '_> {
@@ -37,7 +37,7 @@ impl DeclaredView<'_, '_> {
     pub fn validate_temp_name(&self, story: &StoryView<'_>, item: u32) -> Option<Rule>
         ensures { (before : List What) → result ≡ judged_by (known_in story.now.source.sections story.now.source.file.now) (here_at self.now.body.file.now self.now.body.kept.now self.now.body.scope) temps before (item_in self.now.body.file.now item).what }
     {
-        if is_sort(item, TEMP) {
+        if is_sort(item, Sort::Temp) {
             return self.check_temp_name(story, item_name(self.body.file, item));
         }
         None

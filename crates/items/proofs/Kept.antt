@@ -12,7 +12,8 @@ use Rattle.fields.specs.Bytes.{pick}
 use Rattle.names.specs.Words.{Bytes, Sorted, any, each}
 use Rattle.records.specs.Trace.{well, ends}
 use Rattle.story.specs.declared.Sections.{Sections}
-use Rattle.records.specs.Items.{plain, is, Item, item_of, item_as}
+use Rattle.records.specs.declared.sorts.Sort.TheVariants.{Plain as plain}
+use Rattle.records.specs.Items.{is, Item, item_of, item_as}
 use Rattle.story.specs.Story.{Stitch, stitch_items, flow_items, story_items}
 use Rattle.story.specs.Plain.{not_plain, stitch_without_plain, flow_without_plain}
 use Rattle.story.specs.Flows.{part, pieces_in, stitch, stitch_in, stitches, flows, flows_in}

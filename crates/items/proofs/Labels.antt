@@ -5,7 +5,8 @@ use mathlib.Core.List.{List, [], ◌∷◌, ◌++◌, map, map-append}
 use Rattle.fields.specs.Bytes.{pick}
 use Rattle.names.specs.Words.{Bytes, same, any, each}
 use Rattle.names.proofs.Any.{any_append}
-use Rattle.records.specs.Items.{plain, What, is, Item}
+use Rattle.records.specs.declared.sorts.Sort.TheVariants.{Plain as plain}
+use Rattle.records.specs.Items.{What, is, Item}
 use Rattle.story.specs.Story.{Stitch, whats, stitch_items}
 use Rattle.story.specs.Plain.{not_plain, stitch_without_plain}
 use Rattle.items.specs.Search.{label_in}

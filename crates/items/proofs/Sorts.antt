@@ -1,41 +1,21 @@
--- The sort of a kept number, the fields of its item, and its name. Assumes nothing.
-use mathlib.Core.Path.{◌≡◌, refl, sym, ◌∙◌, ap}
+-- The fields of the item of a kept number, and its name. Assumes nothing.
+use mathlib.Core.Path.{◌≡◌, refl, sym, ◌∙◌}
 use mathlib.Core.Bool.{Bool, true, false, ◌||◌}
-use mathlib.Core.List.{List, [], ◌∷◌}
-use Prim.Native.Nat.{ℕ, zero, suc, ◌+◌, ◌-◌, ◌/◌, ◌%◌, ◌≤◌, ◌<◌}
+use mathlib.Core.List.{List, []}
+use Prim.Native.Nat.{ℕ, ◌+◌, ◌-◌, ◌≤◌}
 use native.Mathlib.Omega.{arith}
-use lib.ListN.{length, get_or, take, drop, get_or-eq_default}
+use lib.ListN.{length, take, drop}
 use lib.Seq.{drop-drop}
 use Rattle.fields.specs.Bytes.{pick}
 use Rattle.names.specs.Words.{Bytes}
 use Rattle.names.specs.Counted.{name_at}
-use Rattle.records.specs.Items.{Kind, plain, temp, choice, code, name_in, same_kind, name_start, nameless, record_name}
-use Rattle.records.specs.Numbers.{place_in, sorts, sort_in, branch_in, labels_in, leaves_in, payload_at, item_in}
+use Rattle.records.specs.declared.sorts.Sort.{Sort as Kind}
+use Rattle.records.specs.declared.sorts.Sort.TheVariants.{Temp as temp, Choice as choice}
+use Rattle.records.specs.Items.{name_in, same_kind, name_start, nameless, record_name}
+use Rattle.records.specs.Numbers.{place_in, sort_in, branch_in, labels_in, leaves_in, payload_at, item_in}
 use Rattle.items.proofs.Parts.{part_none}
 
--- 1. The table of sorts
-
--- the numbers of the sorts follow each other, from k on
-abbrev Follow : ℕ → List Kind → Type 0
-Follow k [] = Unit {0}
-Follow k (x ∷ l) = (code x ≡ k) × Follow (suc k) l
-
-follow-at : (k : ℕ) (l : List Kind) (n : ℕ) → Follow k l → n < length l → code (get_or l n plain) ≡ k + n
-follow-at k [] n f h = absurd (omega arith)
-follow-at k (x ∷ l) zero f h = omega (arith, f.0)
-follow-at k (x ∷ l) (suc n) f h = omega (arith, follow-at (suc k) l n f.1 (omega arith))
-
--- a number up to 9 is that of its sort
-pub sort-there : (x : ℕ) → x / 1048576 % 16 ≤ 9 → x / 1048576 % 16 ≡ code (sort_in x)
-unfolding sort_in
-sort-there x h = omega (arith, follow-at 0 sorts (x / 1048576 % 16) (refl, (refl, (refl, (refl, (refl, (refl, (refl, (refl, (refl, (refl, tt)))))))))) (omega arith))
-
--- a greater one is that of no sort
-pub sort-past : (x : ℕ) → 9 < x / 1048576 % 16 → 0 ≡ code (sort_in x)
-unfolding sort_in
-sort-past x h = sym (ap code (get_or-eq_default sorts plain h))
-
--- 2. The fields of an item
+-- 1. The fields of an item
 
 module _ (file : List ℕ) (x : ℕ) where
   pub item-place : (item_in file x).place ≡ place_in x
@@ -66,7 +46,7 @@ module _ (file : List ℕ) (x : ℕ) where
   unfolding item_in
   item-leaves = refl
 
--- 3. Its name
+-- 2. Its name
 
 -- a name that is there begins where the sort says
 record-named : (k : Kind) (payload : List ℕ) → nameless k payload ≡ false → record_name k payload ≡ name_at payload (name_start k)

@@ -13,7 +13,8 @@ use Rattle.fields.specs.Bytes.{pick}
 use Rattle.names.specs.Words.{◌∈◌}
 use Rattle.names.specs.Counted.{name_at}
 use Rattle.records.specs.Trace.{Record}
-use Rattle.records.specs.Items.{temp, gather, code, Item, sort_of, nameless, what_of, item_as, item_of}
+use Rattle.records.specs.declared.sorts.Sort.TheVariants.{Temp as temp, Gather as gather}
+use Rattle.records.specs.Items.{code, Item, sort_of, nameless, what_of, item_as, item_of}
 use Rattle.records.specs.Numbers.{number_of, place_in, item_in, between}
 use Rattle.records.proofs.Places.{stands-fits}
 use Rattle.story.specs.declared.Sections.{Sections}

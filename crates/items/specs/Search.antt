@@ -1,7 +1,8 @@
 -- A name that some item of a body bears: as a label, as a temp, as a gather's label.
 use Rattle.std.specs.Prelude.{Bool, ◌&&◌, List}
 use Rattle.names.specs.Words.{Bytes, same, any}
-use Rattle.records.specs.Items.{temp, gather, What, is, Item}
+use Rattle.records.specs.declared.sorts.Sort.TheVariants.{Temp as temp, Gather as gather}
+use Rattle.records.specs.Items.{What, is, Item}
 use Rattle.story.specs.Story.{whats}
 use Rattle.items.specs.declared.named.Sought.{Sought}
 use Rattle.items.specs.declared.named.Sought.TheVariants as sought

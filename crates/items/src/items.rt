@@ -1,11 +1,11 @@
 // What one kept item is to the rules: by its number, and by the file at its place.
 ghost use Rattle.std.specs.Prelude.{◌≡◌, List, ℕ, ◌<◌, drop};
-ghost use Rattle.records.specs.Items.{Kind, code, name_start, nameless};
+ghost use Rattle.records.specs.Items.{name_start, nameless};
 ghost use Rattle.records.specs.Numbers.{place_in, payload_at, item_in};
 
 use fields::read_head;
 use names::name_at;
-use records::sorts::{CHOICE, GATHER, PLAIN, TEMP, is_flagged};
+use records::sorts::{Sort, is_flagged};
 
 // The place of the item.
 pub fn place_in(item: u32) -> usize
@@ -15,14 +15,22 @@ pub fn place_in(item: u32) -> usize
 }
 
 // The sort of the item.
-pub fn sort_in(item: u32) -> u8
-    ensures { (file : List ℕ) → result ≡ code (item_in file item).what.kind }
+#[tactic(auto, unfolding(records::specs::Numbers::item_in, records::specs::Numbers::sort_in))]
+pub fn sort_in(item: u32) -> Sort
+    ensures { (file : List ℕ) → result ≡ (item_in file item).what.kind }
 {
-    let sort = (item / 1048576 % 16) as u8;
-    if GATHER < sort {
-        return PLAIN;
+    match item / 1048576 % 16 {
+        1 => Sort::Temp,
+        2 => Sort::Divert,
+        3 => Sort::Tunnel,
+        4 => Sort::Thread,
+        5 => Sort::Call,
+        6 => Sort::Variable,
+        7 => Sort::Argument,
+        8 => Sort::Choice,
+        9 => Sort::Gather,
+        _ => Sort::Plain,
     }
-    sort
 }
 
 // The item stands directly in a branch of a conditional or a switch.
@@ -68,23 +76,25 @@ fn payload_at<'a>(file: &'a [u8], place: usize) -> &'a [u8]
 }
 
 // Where in the payload of an item of the sort its name begins.
-fn name_start(sort: u8) -> usize
-    ensures { (k : Kind) → sort ≡ code k → result ≡ name_start k }
+#[tactic(auto, using(records::proofs::Codes::other_code), unfolding(records::specs::Items::name_start))]
+fn name_start(sort: Sort) -> usize
+    ensures { result ≡ name_start sort }
 {
     match sort {
-        TEMP => 1,
-        CHOICE => 1,
+        Sort::Temp => 1,
+        Sort::Choice => 1,
         _ => 0,
     }
 }
 
 // An item of the sort has no name.
-fn is_nameless(sort: u8, payload: &[u8]) -> bool
-    ensures { (k : Kind) → sort ≡ code k → result ≡ nameless k payload.now }
+#[tactic(auto, using(records::proofs::Codes::other_code), unfolding(records::specs::Items::nameless))]
+fn is_nameless(sort: Sort, payload: &[u8]) -> bool
+    ensures { result ≡ nameless sort payload.now }
 {
     match sort {
-        PLAIN => true,
-        CHOICE => !is_flagged(payload),
+        Sort::Plain => true,
+        Sort::Choice => !is_flagged(payload),
         _ => false,
     }
 }

@@ -7,7 +7,7 @@ ghost use Rattle.items.specs.Search.{label_in, temp_in, gather_among, of_sort, b
 
 use crate::items::{is_labelled, item_name, sort_in};
 use names::same_name;
-use records::sorts::{GATHER, TEMP};
+use records::sorts::Sort;
 
 // What is sought: a label, a temp, or the label of a gather.
 #[derive(Clone, Copy)]
@@ -18,13 +18,14 @@ pub enum Sought {
 }
 
 // The item is of the sought sort.
+#[tactic(auto, using(records::proofs::Codes::same_code), unfolding(crate::specs::Search::of_sort))]
 pub fn is_of_sort(sought: Sought, item: u32) -> bool
     ensures { (file : List ℕ) → result ≡ of_sort sought (item_in file item).what }
 {
     match sought {
         Sought::Label => is_labelled(item),
-        Sought::Temp => TEMP == sort_in(item),
-        Sought::Gather => GATHER == sort_in(item),
+        Sought::Temp => Sort::Temp == sort_in(item),
+        Sought::Gather => Sort::Gather == sort_in(item),
     }
 }
 

@@ -6,7 +6,8 @@ use Prim.Native.Nat.{ℕ, ◌≤◌, ◌<◌, ◌^◌}
 use native.Mathlib.Omega.{arith}
 use lib.Dec.{lit<}
 use Rattle.names.specs.Words.{◌∈◌}
-use Rattle.records.specs.Items.{parameter, Item}
+use Rattle.records.specs.declared.sorts.Sort.TheVariants.{Parameter as parameter}
+use Rattle.records.specs.Items.{Item}
 use Rattle.story.specs.Story.{Name, Stitch, Flow, Story}
 use Rattle.symbols.specs.Numbers.{absent}
 use Rattle.rules.specs.declared.Rule.{Rule}

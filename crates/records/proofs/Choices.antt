@@ -12,7 +12,9 @@ use Rattle.fields.specs.Bytes.{list_of, name_of, flag_of, span_reach}
 use Rattle.fields.specs.Kinds.{kind_of, node_kinds}
 use Rattle.fields.proofs.Laws.{same_pair, span_to, to_end, name-within, name-count, off-fits, on_fits, flag_off, flag-on}
 use Rattle.records.specs.Grammar.{Reading, Reader, ending, records, listed, named, flagged, last, options, body_of, record_of}
-use Rattle.records.specs.Items.{Kind, plain, choice, same_kind, sort_of, end_with_divert, spanned, past, unlabelled, second_list, choice_body, leaves}
+use Rattle.records.specs.declared.sorts.Sort.{Sort as Kind}
+use Rattle.records.specs.declared.sorts.Sort.TheVariants.{Plain as plain, Choice as choice}
+use Rattle.records.specs.Items.{same_kind, sort_of, end_with_divert, spanned, past, unlabelled, second_list, choice_body, leaves}
 use Rattle.records.specs.Work.{St, st, Ran, ended, broke, Visitor, run, keeping, walk_of, Written, Told, end_of, reach_after, label_reach_of, label_reach, nodes_of, ToldNodes, nodes_end, is_choice, payload_leaves, last_slot, leaves_at, put_leaves, nodes_walk, nodes_put}
 use Rattle.records.proofs.Tables.{all-pairs}
 use Rattle.records.proofs.Marks.{sorts-by, every-kind}

@@ -5,7 +5,8 @@ use Rattle.std.proofs.Common.{◌≡◌, ℕ, zero, suc, ◌+◌, ◌%◌, ◌^�
 use Rattle.fields.specs.declared.Role.{Role}
 use Rattle.fields.specs.Bytes.{pick}
 use Rattle.records.specs.Trace.{Trace, done, refuse, emit, met, Ending, well, refused, ends}
-use Rattle.records.specs.Items.{plain, is, Item, item_of}
+use Rattle.records.specs.declared.sorts.Sort.TheVariants.{Plain as plain}
+use Rattle.records.specs.Items.{is, Item, item_of}
 use Rattle.records.specs.Numbers.{number_of, kept_numbers}
 use Rattle.records.specs.Buffers.{fill}
 use Rattle.records.specs.Work.{Ran, ended, broke, St, st, run, counts, keep, keeping, walk_of, Written, Told, walked, items_of, Walked}

@@ -8,7 +8,8 @@ use Rattle.fields.specs.Bytes.{Head, pick, head_of, read_of_head}
 use Rattle.fields.proofs.Laws.{head-to, to_end}
 use Rattle.records.specs.Trace.{Trace, done, refuse, emit, met}
 use Rattle.records.specs.Grammar.{body_of, record_of}
-use Rattle.records.specs.Items.{plain, is, Item, item_of, leaving, ending_at, ending_n, end_with_divert}
+use Rattle.records.specs.declared.sorts.Sort.TheVariants.{Plain as plain}
+use Rattle.records.specs.Items.{is, Item, item_of, leaving, ending_at, ending_n, end_with_divert}
 use Rattle.records.specs.Numbers.{number_of}
 use Rattle.records.specs.Work.{Ran, ended, broke, St, st, run, keep, keeping, last_slot, leaves_at, put_leaves}
 use Rattle.records.proofs.Places.{payload-count}

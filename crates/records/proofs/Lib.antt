@@ -2,6 +2,7 @@
 pub mod Traces
 pub mod Readings
 pub mod Tables
+pub mod Codes
 pub mod Marks
 pub mod Walking
 pub mod PiecesRead

@@ -7,31 +7,18 @@ use Rattle.fields.specs.declared.Role.{Role}
 use Rattle.fields.specs.declared.Role.TheVariants.{Node, Branch, Cond, Visited, Argument, Unvisited}
 use Rattle.fields.specs.Bytes.{pick}
 use Rattle.fields.specs.Kinds.{kind_of, node_kinds, node_kind, cond_kinds, cond_kind, expr_kinds, expr_kind}
-use Rattle.records.specs.Items.{Kind, plain, temp, divert, tunnel, thread, call, variable, argument, choice, gather, parameter, stitch_name, flow_start, code, assigned, node_sorts, cond_sorts, expr_sorts, argument_sorts, sort_of, labelled, in_branch, leaves, what_of, item_as, item_of}
+use Rattle.records.specs.declared.sorts.Sort.{Sort as Kind}
+use Rattle.records.specs.declared.sorts.Sort.TheVariants.{Plain as plain, Temp as temp, Divert as divert, Tunnel as tunnel, Thread as thread, Call as call, Variable as variable, Argument as argument, Choice as choice, Gather as gather, Parameter as parameter, StitchName as stitch_name, FlowStart as flow_start}
+use Rattle.records.specs.Items.{code, node_sorts, cond_sorts, expr_sorts, argument_sorts, sort_of, labelled, in_branch, leaves, what_of, item_as, item_of}
 use Rattle.records.specs.Numbers.{bit, mark_of, number_of}
 use Rattle.records.specs.Work.{st, keep, keeping, last_slot, leaves_at, put_leaves}
-use Rattle.records.proofs.Tables.{Misses, missed, all-pairs, pairs-at}
+use Rattle.records.proofs.Tables.{all-pairs, pairs-at}
 
 -- 1. The tables
 
 -- the sorts of nodes, by whether an assignment sets a temp
 abbrev pub sorts-by : Bool → List Kind
 sorts-by x = plain ∷ plain ∷ plain ∷ divert ∷ tunnel ∷ thread ∷ plain ∷ plain ∷ plain ∷ plain ∷ plain ∷ plain ∷ plain ∷ pick x temp plain ∷ choice ∷ gather ∷ call ∷ []
-
--- every other node is plain
-pub node-plain : (payload : List ℕ) (kind : ℕ)
-    → Misses plain ((16, call) ∷ (15, gather) ∷ (14, choice) ∷ (13, assigned payload) ∷ (5, thread) ∷ (4, tunnel) ∷ (3, divert) ∷ []) kind
-    → 0 ≡ code (get_or (node_sorts payload) kind plain)
-node-plain payload kind h = sym (ap code (missed plain 17 ((16, call) ∷ (15, gather) ∷ (14, choice) ∷ (13, assigned payload) ∷ (5, thread) ∷ (4, tunnel) ∷ (3, divert) ∷ []) kind h))
-
-pub cond-plain : (kind : ℕ) → Misses plain ((1, call) ∷ []) kind → 0 ≡ code (get_or cond_sorts kind plain)
-cond-plain kind h = sym (ap code (missed plain 3 ((1, call) ∷ []) kind h))
-
-pub expr-plain : (kind : ℕ) → Misses plain ((5, call) ∷ (1, variable) ∷ []) kind → 0 ≡ code (get_or expr_sorts kind plain)
-expr-plain kind h = sym (ap code (missed plain 7 ((5, call) ∷ (1, variable) ∷ []) kind h))
-
-pub argument-plain : (kind : ℕ) → Misses plain ((2, argument) ∷ []) kind → 0 ≡ code (get_or argument_sorts kind plain)
-argument-plain kind h = sym (ap code (missed plain 3 ((2, argument) ∷ []) kind h))
 
 -- a test of kinds beside sorts passes for every record where it passes along the tables, and where there is no such kind
 module _ (test : Option Body → Kind → Bool) (none : (k : Kind) → test None k ≡ true) (nodes : (x : Bool) → all-pairs test plain node_kinds (sorts-by x) ≡ true)

@@ -4,17 +4,16 @@ use Rattle.fields.specs.declared.Role.{Role}
 use Rattle.fields.specs.declared.Role.TheVariants.{Node, Branch, Cond, Visited, Argument, Unvisited}
 use Rattle.fields.specs.Bytes.{Head, Span, pick, head_of, list_of}
 use Rattle.names.specs.Words.{Bytes, any}
+use Rattle.records.specs.declared.sorts.Sort.{Sort as Kind}
+use Rattle.records.specs.declared.sorts.Sort.TheVariants.{Plain as plain, Temp as temp, Divert as divert, Tunnel as tunnel, Thread as thread, Call as call, Variable as variable, Argument as argument, Choice as choice, Gather as gather, Parameter as parameter, StitchName as stitch_name, FlowStart as flow_start}
 use Rattle.records.specs.Trace.{Record, met, Ending, well, refused, ends}
 use Rattle.records.specs.Grammar.{nodes}
 
--- What a step can visit.
+-- What a step can visit, the code's `Sort`.
 --   temp: node 13 of mode 1. divert, tunnel, thread: nodes 3, 4, 5. choice: node 14. gather: node 15.
 --   call: node 16, condition 1, and expression 5 where calls are visited. variable: expression 1 where calls are visited.
 --   argument: a DivertTarget directly an argument of nodes 3, 4, 5. plain: every other record, node 7 among them.
 -- The last three are no records of a body: a parameter's name, a stitch's name, a flow's first byte.
-pub data Kind : Type 0 where
-  plain temp divert tunnel thread call variable argument choice gather parameter stitch_name flow_start : Kind
-
 -- a number for each kind
 abbrev pub code : Kind → ℕ
 code plain = 0

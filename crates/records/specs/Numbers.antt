@@ -2,7 +2,9 @@
 -- whether it is a choice that leaves.
 use Rattle.std.specs.Prelude.{ℕ, ◌+◌, ◌*◌, ◌/◌, ◌%◌, Bool, true, false, not, ◌&&◌, List, [], ◌∷◌, take, drop, ◌==◌, nat_lt, slice_index_or}
 use Rattle.fields.specs.Bytes.{Head, pick, head_of}
-use Rattle.records.specs.Items.{Kind, plain, temp, divert, tunnel, thread, call, variable, argument, choice, gather, code, What, is, Item, name_start, record_name}
+use Rattle.records.specs.declared.sorts.Sort.{Sort as Kind}
+use Rattle.records.specs.declared.sorts.Sort.TheVariants.{Plain as plain, Temp as temp, Divert as divert, Tunnel as tunnel, Thread as thread, Call as call, Variable as variable, Argument as argument, Choice as choice, Gather as gather}
+use Rattle.records.specs.Items.{code, What, is, Item, name_start, record_name}
 
 -- a test as a number
 unfoldable pub bit : Bool → ℕ

@@ -7,8 +7,11 @@ use Rattle.fields.specs.declared.Body.{Body}
 use Rattle.fields.specs.declared.Body.TheVariants as body
 use Rattle.fields.specs.Kinds.{kind_of}
 use Rattle.fields.specs.Bytes.{pick, head_of, read_of_head, list_of, name_of, span_reach, flag_of}
+use Rattle.records.specs.declared.part.Part.{Part}
+use Rattle.records.specs.Grammar.{Reading}
 use Rattle.records.specs.Trace.{Trace, done, refuse, emit, met, Ending, well, refused, ends}
-use Rattle.records.specs.Items.{plain, code, is, Item, sort_of, item_of, choice_body, end_with_divert}
+use Rattle.records.specs.declared.sorts.Sort.TheVariants.{Plain as plain}
+use Rattle.records.specs.Items.{code, is, Item, sort_of, item_of, choice_body, end_with_divert}
 use Rattle.records.specs.Numbers.{number_of, kept_numbers}
 use Rattle.records.specs.Buffers.{fill}
 
@@ -54,6 +57,10 @@ keep s i =
 -- the visitor that keeps
 unfoldable pub keeping : Visitor St
 keeping s role kind place bs = keep s (item_of (record { role = role; kind = kind; place = place; payload = bs }))
+
+-- the run that keeps, over what a reading makes of a part's bytes
+abbrev pub over : Part → St → Reading → Ran St
+over p s k = run keeping p.base s (k p.bytes.now)
 
 -- the answer
 unfoldable pub walk_of : Ran St → Result ℕ Refusal

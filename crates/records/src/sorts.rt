@@ -1,31 +1,30 @@
 // What a record is to the rules, by its role, its kind and its payload.
 ghost use Rattle.std.specs.Prelude.{◌≡◌, true, slice_index_or};
-ghost use Rattle.records.specs.Items.{Kind, code, node_sorts, cond_sorts, expr_sorts, argument_sorts, sort_of, assigned, flag, labelled, in_branch};
+ghost use Rattle.records.specs.declared.sorts.Sort.TheVariants.{Plain};
+ghost use Rattle.records.specs.Items.{node_sorts, cond_sorts, expr_sorts, argument_sorts, sort_of, assigned, flag, labelled, in_branch};
 ghost use Rattle.records.specs.Numbers.{bit};
 ghost use Rattle.records.specs.Work.{Bare, BareKind};
 
 use fields::Role;
 
-// The sorts of records, numbered as `code` of specs/Items has them.
-pub const PLAIN: u8 = 0;
-
-pub const TEMP: u8 = 1;
-
-pub const DIVERT: u8 = 2;
-
-pub const TUNNEL: u8 = 3;
-
-pub const THREAD: u8 = 4;
-
-pub const CALL: u8 = 5;
-
-pub const VARIABLE: u8 = 6;
-
-pub const ARGUMENT: u8 = 7;
-
-pub const CHOICE: u8 = 8;
-
-pub const GATHER: u8 = 9;
+// The sorts of records, numbered as `code` of specs/Items has them. The last three are no records of a body: the name of a parameter, that of a stitch,
+// the first byte of a flow.
+#[derive(Clone, Copy, PartialEq, Eq)]
+pub enum Sort {
+    Plain,
+    Temp,
+    Divert,
+    Tunnel,
+    Thread,
+    Call,
+    Variable,
+    Argument,
+    Choice,
+    Gather,
+    Parameter,
+    StitchName,
+    FlowStart,
+}
 
 // A flag byte at the front.
 pub fn is_flagged(s: &[u8]) -> bool
@@ -38,65 +37,65 @@ pub fn is_flagged(s: &[u8]) -> bool
 }
 
 // The sort of an assignment: a temp where its mode is 1.
-fn assigned_sort(payload: &[u8]) -> u8
-    ensures { result ≡ code (assigned payload.now) }
+fn assigned_sort(payload: &[u8]) -> Sort
+    ensures { result ≡ assigned payload.now }
 {
     if is_flagged(payload) {
-        return TEMP;
+        return Sort::Temp;
     }
-    PLAIN
+    Sort::Plain
 }
 
 // The sort of a node.
-fn node_sort(kind: u8, payload: &[u8]) -> u8
-    ensures { result ≡ code (slice_index_or (node_sorts payload.now) kind Kind.plain) }
+fn node_sort(kind: u8, payload: &[u8]) -> Sort
+    ensures { result ≡ slice_index_or (node_sorts payload.now) kind Plain }
 {
     match kind {
-        3 => DIVERT,
-        4 => TUNNEL,
-        5 => THREAD,
+        3 => Sort::Divert,
+        4 => Sort::Tunnel,
+        5 => Sort::Thread,
         13 => assigned_sort(payload),
-        14 => CHOICE,
-        15 => GATHER,
-        16 => CALL,
-        _ => PLAIN,
+        14 => Sort::Choice,
+        15 => Sort::Gather,
+        16 => Sort::Call,
+        _ => Sort::Plain,
     }
 }
 
 // The sort of a condition.
-fn cond_sort(kind: u8) -> u8
-    ensures { result ≡ code (slice_index_or cond_sorts kind Kind.plain) }
+fn cond_sort(kind: u8) -> Sort
+    ensures { result ≡ slice_index_or cond_sorts kind Plain }
 {
     match kind {
-        1 => CALL,
-        _ => PLAIN,
+        1 => Sort::Call,
+        _ => Sort::Plain,
     }
 }
 
 // The sort of an expression that the steps on calls and variables visit.
-fn expr_sort(kind: u8) -> u8
-    ensures { result ≡ code (slice_index_or expr_sorts kind Kind.plain) }
+fn expr_sort(kind: u8) -> Sort
+    ensures { result ≡ slice_index_or expr_sorts kind Plain }
 {
     match kind {
-        1 => VARIABLE,
-        5 => CALL,
-        _ => PLAIN,
+        1 => Sort::Variable,
+        5 => Sort::Call,
+        _ => Sort::Plain,
     }
 }
 
 // The sort of an argument of a divert.
-fn argument_sort(kind: u8) -> u8
-    ensures { result ≡ code (slice_index_or argument_sorts kind Kind.plain) }
+fn argument_sort(kind: u8) -> Sort
+    ensures { result ≡ slice_index_or argument_sorts kind Plain }
 {
     match kind {
-        2 => ARGUMENT,
-        _ => PLAIN,
+        2 => Sort::Argument,
+        _ => Sort::Plain,
     }
 }
 
 // The sort of a record.
-pub fn sort_of(role: Role, kind: u8, payload: &[u8]) -> u8
-    ensures { result ≡ code (sort_of role kind payload.now) }
+pub fn sort_of(role: Role, kind: u8, payload: &[u8]) -> Sort
+    ensures { result ≡ sort_of role kind payload.now }
 {
     match role {
         Role::Node => node_sort(kind, payload),
@@ -104,7 +103,7 @@ pub fn sort_of(role: Role, kind: u8, payload: &[u8]) -> u8
         Role::Cond => cond_sort(kind),
         Role::Visited => expr_sort(kind),
         Role::Argument => argument_sort(kind),
-        Role::Unvisited => PLAIN,
+        Role::Unvisited => Sort::Plain,
     }
 }
 
@@ -123,17 +122,17 @@ pub fn branch_bit(role: Role) -> u32
 }
 
 // 1 where the name of a record of the sort is a label.
-pub fn label_bit(sort: u8, payload: &[u8]) -> u32
-    ensures { (k : Kind) → sort ≡ code k → result ≡ bit (labelled k payload.now) }
+pub fn label_bit(sort: Sort, payload: &[u8]) -> u32
+    ensures { result ≡ bit (labelled sort payload.now) }
 {
     match sort {
-        CHOICE => {
+        Sort::Choice => {
             if is_flagged(payload) {
                 return 1;
             }
             0
         }
-        GATHER => 1,
+        Sort::Gather => 1,
         _ => 0,
     }
 }

@@ -25,7 +25,9 @@ use Rattle.records.specs.Trace.{Trace, and_then, shift, Record, met, well, ends}
 use Rattle.records.specs.Grammar.{Reading, Reader, front_at, front, ending, records, piece_at, listed, named_at, flagged_at, last, options, body_of, record_of, nodes}
 use Rattle.records.proofs.Traces.{shift-shift, then-done, shift-done}
 use Rattle.records.proofs.Readings.{front-local, repeat-step}
-use Rattle.records.specs.Items.{Kind, plain, temp, divert, tunnel, thread, call, variable, argument, choice, gather, parameter, stitch_name, flow_start, code, What, Item, sort_of, leaving, ending_at, ending_n, end_with_divert, spanned, past, unlabelled, second_list, choice_body, leaves, what_of, item_as, item_of}
+use Rattle.records.specs.declared.sorts.Sort.{Sort as Kind}
+use Rattle.records.specs.declared.sorts.Sort.TheVariants.{Plain as plain, Temp as temp, Divert as divert, Tunnel as tunnel, Thread as thread, Call as call, Variable as variable, Argument as argument, Choice as choice, Gather as gather, Parameter as parameter, StitchName as stitch_name, FlowStart as flow_start}
+use Rattle.records.specs.Items.{code, What, Item, sort_of, leaving, ending_at, ending_n, end_with_divert, spanned, past, unlabelled, second_list, choice_body, leaves, what_of, item_as, item_of}
 use Rattle.story.specs.Story.{Story}
 use Rattle.story.proofs.Endings.{ends-then, ends-shift, second-well}
 use Rattle.story.proofs.WellInside.{record-bears}

@@ -7,7 +7,9 @@ use mathlib.Core.Option.{none, some}
 use Prim.Native.Nat.{ℕ}
 use Rattle.names.specs.Words.{Bytes}
 use Rattle.names.specs.Reserved.{END, arrow, builtins}
-use Rattle.records.specs.Items.{Kind, temp, divert, thread, variable, choice, gather, Item}
+use Rattle.records.specs.declared.sorts.Sort.{Sort as Kind}
+use Rattle.records.specs.declared.sorts.Sort.TheVariants.{Temp as temp, Divert as divert, Thread as thread, Variable as variable, Choice as choice, Gather as gather}
+use Rattle.records.specs.Items.{Item}
 use Rattle.story.specs.Story.{Name, Stitch, Flow, Story}
 use Rattle.symbols.specs.Index.{labelled, stitch_entries, flow_entries, entries}
 use Rattle.rules.specs.Rules.{broken, known, here, number}

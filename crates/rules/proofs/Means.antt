@@ -8,7 +8,9 @@ use lib.Dec.{T, eqb, eqb→eq, eqb_refl}
 use Rattle.names.specs.Words.{Bytes, ◌∈◌}
 use Rattle.names.specs.Reserved.{END, DONE, back, builtins}
 use Rattle.names.proofs.Means.{Means, itself, never, both, three, four, either, either3, fails, some_of, some-both, equal, member, end, pass}
-use Rattle.records.specs.Items.{Kind, temp, divert, tunnel, thread, call, variable, argument, choice, gather, parameter, stitch_name, flow_start, code, What, is, Item}
+use Rattle.records.specs.declared.sorts.Sort.{Sort as Kind}
+use Rattle.records.specs.declared.sorts.Sort.TheVariants.{Temp as temp, Divert as divert, Tunnel as tunnel, Thread as thread, Call as call, Variable as variable, Argument as argument, Choice as choice, Gather as gather, Parameter as parameter, StitchName as stitch_name, FlowStart as flow_start}
+use Rattle.records.specs.Items.{code, What, is, Item}
 use Rattle.story.specs.Story.{Flow, Story, words, whats}
 use Rattle.items.specs.Search.{label_in, temp_in}
 use Rattle.symbols.specs.Index.{spellings}

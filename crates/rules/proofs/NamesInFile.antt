@@ -15,7 +15,9 @@ use Rattle.names.proofs.Any.{any-in}
 use Rattle.names.proofs.Lists.{in-each}
 use Rattle.records.specs.Trace.{met}
 use Rattle.records.specs.Grammar.{nodes}
-use Rattle.records.specs.Items.{Kind, plain, temp, divert, tunnel, thread, call, variable, argument, choice, gather, parameter, stitch_name, flow_start, code, What, Item, sort_of, nameless, same_kind, what_of, item_as, item_of}
+use Rattle.records.specs.declared.sorts.Sort.{Sort as Kind}
+use Rattle.records.specs.declared.sorts.Sort.TheVariants.{Plain as plain, Temp as temp, Divert as divert, Tunnel as tunnel, Thread as thread, Call as call, Variable as variable, Argument as argument, Choice as choice, Gather as gather, Parameter as parameter, StitchName as stitch_name, FlowStart as flow_start}
+use Rattle.records.specs.Items.{code, What, Item, sort_of, nameless, same_kind, what_of, item_as, item_of}
 use Rattle.story.specs.Story.{Name, Stitch, Flow, Story, whats}
 use Rattle.story.proofs.Readable as reader
 use Rattle.story.proofs.Named.{record-as-file}

@@ -6,7 +6,9 @@ use mathlib.Core.List.{List, [], ◌∷◌, ◌++◌, map}
 use mathlib.Core.Logic.{◌↔◌}
 use mathlib.Core.Option.{none, some-ne-none}
 use Rattle.names.specs.Words.{Bytes, same, any, ends}
-use Rattle.records.specs.Items.{Kind, parameter, stitch_name, flow_start, What, Item}
+use Rattle.records.specs.declared.sorts.Sort.{Sort as Kind}
+use Rattle.records.specs.declared.sorts.Sort.TheVariants.{Parameter as parameter, StitchName as stitch_name, FlowStart as flow_start}
+use Rattle.records.specs.Items.{What, Item}
 use Rattle.story.specs.Story.{Name, Stitch, Flow, Story, words, whats}
 use Rattle.items.specs.Search.{label_in, temp_in}
 use Rattle.rules.specs.Rules.{Known, Here, known, knot_label, Scope, root, knot, stitch, here}

@@ -4,7 +4,8 @@ use mathlib.Core.List.Memᴰ
 use mathlib.Core.List.{List, [], ◌∷◌, ◌++◌}
 use Prim.Native.Nat.{ℕ, ◌<◌}
 use Rattle.names.specs.Words.{◌∈◌, Sorted}
-use Rattle.records.specs.Items.{parameter, Item}
+use Rattle.records.specs.declared.sorts.Sort.TheVariants.{Parameter as parameter}
+use Rattle.records.specs.Items.{Item}
 use Rattle.story.specs.Story.{Name, Stitch, Flow, Story}
 use Rattle.rules.specs.Steps.{Run, name_item, param_items}
 use Rattle.rules.specs.Meaning.{RanInStitch, ran_name, ran_stitch_body, RanInFlow, ran_purity, ran_no_purity, ran_params, ran_flow_body, ran_stitch, ran_flow_gathers, Ran, ran_root, ran_flow, ran_root_gathers}

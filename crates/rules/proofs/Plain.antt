@@ -5,7 +5,9 @@ use mathlib.Core.List.{List, [], ◌∷◌, ◌++◌}
 use Prim.Native.Nat.{ℕ, suc}
 use Rattle.names.specs.Words.{Bytes, same, any, only, each}
 use Rattle.names.proofs.Any.{any_append}
-use Rattle.records.specs.Items.{Kind, plain, temp, gather, parameter, stitch_name, flow_start, What, is, Item}
+use Rattle.records.specs.declared.sorts.Sort.{Sort as Kind}
+use Rattle.records.specs.declared.sorts.Sort.TheVariants.{Plain as plain, Temp as temp, Gather as gather, Parameter as parameter, StitchName as stitch_name, FlowStart as flow_start}
+use Rattle.records.specs.Items.{What, is, Item}
 use Rattle.story.specs.Story.{Name, Stitch, Flow, Story, whats}
 use Rattle.story.specs.Plain.{without_plain, Unlabelled, UnlabelledStory}
 use Rattle.story.specs.Fewer.{Aligned, end, next, Matching, same_places, LikeName, LikeItem, IsPlain, Fewer, none, kept, left, FewerStitch, FewerFlow, FewerStory}

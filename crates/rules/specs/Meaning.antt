@@ -3,7 +3,9 @@
 use Rattle.std.specs.Prelude.{◌≡◌, List, [], ◌∷◌, ◌++◌, map, ◌⊎◌, ℕ, ◌+◌, ◌-◌, ◌*◌, ◌<◌, T, length}
 use Rattle.names.specs.Words.{Bytes, ◌∈◌}
 use Rattle.names.specs.Reserved.{END, DONE, arrow, back, builtins}
-use Rattle.records.specs.Items.{Kind, temp, divert, tunnel, thread, call, variable, argument, choice, gather, parameter, stitch_name, flow_start, code, What, Item}
+use Rattle.records.specs.declared.sorts.Sort.{Sort as Kind}
+use Rattle.records.specs.declared.sorts.Sort.TheVariants.{Temp as temp, Divert as divert, Tunnel as tunnel, Thread as thread, Call as call, Variable as variable, Argument as argument, Choice as choice, Gather as gather, Parameter as parameter, StitchName as stitch_name, FlowStart as flow_start}
+use Rattle.records.specs.Items.{code, What, Item}
 use Rattle.story.specs.Story.{Name, Stitch, Flow, Story, words, whats}
 use Rattle.symbols.specs.Spelled.{LabelIn, Spelled}
 use Rattle.symbols.specs.Numbers.{absent}

@@ -4,7 +4,8 @@ use Rattle.std.specs.Prelude.{Bool, true, false, not, ◌&&◌, ◌||◌, List, 
 use Rattle.names.specs.Words.{Bytes, same, any, one_of, ends}
 use Rattle.names.specs.Reserved.{END, DONE, back, builtins}
 use Rattle.names.specs.Targets.{passes}
-use Rattle.records.specs.Items.{temp, divert, tunnel, thread, call, variable, argument, choice, gather, parameter, stitch_name, flow_start, What, is}
+use Rattle.records.specs.declared.sorts.Sort.TheVariants.{Temp as temp, Divert as divert, Tunnel as tunnel, Thread as thread, Call as call, Variable as variable, Argument as argument, Choice as choice, Gather as gather, Parameter as parameter, StitchName as stitch_name, FlowStart as flow_start}
+use Rattle.records.specs.Items.{What, is}
 use Rattle.story.specs.Story.{Stitch, Flow, Story, words}
 use Rattle.searches.specs.Called.{is_flow, is_function}
 use Rattle.items.specs.Search.{label_in, temp_in}

@@ -9,7 +9,9 @@ use Rattle.fields.specs.Kinds.{kind_of}
 use Rattle.names.specs.Words.{◌∈◌}
 use Rattle.records.specs.Trace.{done, emit, Record, met}
 use Rattle.records.specs.Grammar.{Reader, body_of}
-use Rattle.records.specs.Items.{Kind, plain, temp, divert, tunnel, thread, call, variable, argument, choice, gather, parameter, stitch_name, flow_start, Item}
+use Rattle.records.specs.declared.sorts.Sort.{Sort as Kind}
+use Rattle.records.specs.declared.sorts.Sort.TheVariants.{Plain as plain, Temp as temp, Divert as divert, Tunnel as tunnel, Thread as thread, Call as call, Variable as variable, Argument as argument, Choice as choice, Gather as gather, Parameter as parameter, StitchName as stitch_name, FlowStart as flow_start}
+use Rattle.records.specs.Items.{Item}
 use Rattle.story.specs.Story.{Stitch, Flow, Story}
 
 -- a node: also one directly in a branch of kind 8 or 9

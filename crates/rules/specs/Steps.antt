@@ -2,7 +2,9 @@
 use Rattle.std.specs.Prelude.{◌≡◌, Bool, true, false, List, [], ◌∷◌, ◌++◌, map, ◌⊎◌, ℕ, suc, ◌<◌}
 use Rattle.std.proofs.Math.Option.{Option, none, some}
 use Rattle.names.specs.Words.{only, each}
-use Rattle.records.specs.Items.{Kind, parameter, stitch_name, flow_start, What, Item}
+use Rattle.records.specs.declared.sorts.Sort.{Sort as Kind}
+use Rattle.records.specs.declared.sorts.Sort.TheVariants.{Parameter as parameter, StitchName as stitch_name, FlowStart as flow_start}
+use Rattle.records.specs.Items.{What, Item}
 use Rattle.story.specs.Story.{Name, Stitch, Flow, Story}
 use Rattle.symbols.specs.Numbers.{absent}
 use Rattle.rules.specs.declared.Rule.{Rule}

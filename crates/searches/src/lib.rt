@@ -69,15 +69,13 @@ fn flows_have(s: &[u8], name: &[u8], function: bool) -> bool
     ensures { result ≡ any (called_as function name.now) (flows_in 0 s.now) }
 {
     let mut t = s;
-    loop {
-        let Ok(e) = read_list(t) else {
-            return false;
-        };
+    while let Ok(e) = read_list(t) {
         if is_called(&t[4..e], name, function) {
             return true;
         }
         t = &t[e..];
     }
+    false
 }
 
 // The name is a flow's.

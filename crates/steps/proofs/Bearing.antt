@@ -10,7 +10,9 @@ use lib.ListN.{length, get_or, take, drop, length-take, length-drop}
 use lib.Seq.{get_or-take, get_or-drop}
 use Rattle.fields.specs.Bytes.{pick}
 use Rattle.names.specs.Words.{◌∈◌}
-use Rattle.records.specs.Items.{Kind, plain, temp, divert, tunnel, thread, call, variable, argument, choice, gather, parameter, stitch_name, flow_start, code, is, Item, sort_of, nameless, what_of, item_as, item_of}
+use Rattle.records.specs.declared.sorts.Sort.{Sort as Kind}
+use Rattle.records.specs.declared.sorts.Sort.TheVariants.{Plain as plain, Temp as temp, Divert as divert, Tunnel as tunnel, Thread as thread, Call as call, Variable as variable, Argument as argument, Choice as choice, Gather as gather, Parameter as parameter, StitchName as stitch_name, FlowStart as flow_start}
+use Rattle.records.specs.Items.{is, Item, sort_of, nameless, what_of, item_as, item_of}
 use Rattle.records.specs.Numbers.{number_of, kept_numbers, item_in}
 use Rattle.records.proofs.Places.{stands-fits}
 use Rattle.story.specs.declared.Sections.{Sections}
@@ -51,7 +53,7 @@ kept_of (i ∷ l) x m = by-test (is plain i.what) refl (kept_of l x) m
     by-test false e later n = by-case e later (Memᴰ.cases_cons n)
 
 -- what is not plain and no choice has a name
-has-name : (k : Kind) (payload : List ℕ) → is plain (record { kind = k; name = []; labels = false; branch = false; leaves = false }) ≡ false → (code k ≡ 8 → ⊥) → nameless k payload ≡ false
+has-name : (k : Kind) (payload : List ℕ) → is plain (record { kind = k; name = []; labels = false; branch = false; leaves = false }) ≡ false → (k ≡ choice → ⊥) → nameless k payload ≡ false
 unfolding nameless
 has-name plain payload v z = absurd (true≢false v)
 has-name temp payload v z = refl

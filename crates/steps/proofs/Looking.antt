@@ -7,7 +7,9 @@ use lib.ListN.{get_or}
 use Rattle.story.specs.declared.Sections.{Sections}
 use Rattle.fields.specs.Bytes.{pick}
 use Rattle.names.specs.Words.{each}
-use Rattle.records.specs.Items.{Kind, plain, temp, divert, tunnel, thread, call, variable, argument, choice, gather, parameter, stitch_name, flow_start, code, What, is}
+use Rattle.records.specs.declared.sorts.Sort.{Sort as Kind}
+use Rattle.records.specs.declared.sorts.Sort.TheVariants.{Plain as plain, Temp as temp, Divert as divert, Tunnel as tunnel, Thread as thread, Call as call, Variable as variable, Argument as argument, Choice as choice, Gather as gather, Parameter as parameter, StitchName as stitch_name, FlowStart as flow_start}
+use Rattle.records.specs.Items.{What, is}
 use Rattle.rules.specs.declared.Rule.{Rule}
 use Rattle.rules.specs.declared.Rule.TheVariants.{FunctionDivertedTo, TargetNotFound, FlowCalled, NameIsFunction, NameIsGlobal, TempIsParameter, TempIsLabel, ParameterUnmarked, ParameterAlreadyMarked, GatherRepeated, ChoiceUndiverted, FunctionWithStitches, FunctionWithChoice, FunctionWithDivert, VariableForbidden}
 use Rattle.rules.specs.Rules.{Known, Here, broken}
@@ -67,7 +69,7 @@ three-none false b c e = two_none b c e
 
 module _ (k : Known) (h : Here) (before : List What) where
   -- THE SORTS: a rule is not broken at a thing of another sort
-  pub not-of-sort : (r : Rule) (w : What) → can_break (code w.kind) r ≡ false → broken k h before r w ≡ false
+  pub not-of-sort : (r : Rule) (w : What) → can_break w.kind r ≡ false → broken k h before r w ≡ false
   unfolding can_break broken
   not-of-sort FunctionDivertedTo w e = rw (three-none (is divert w) (is tunnel w) (is thread w) e)
   not-of-sort TargetNotFound w e = rw (three-none (is divert w) (is tunnel w) (is thread w) e)
@@ -86,53 +88,53 @@ module _ (k : Known) (h : Here) (before : List What) where
   not-of-sort VariableForbidden w e = rw (one_none (is variable w) e)
 
   -- where it is broken, the thing is of one of its sorts
-  pub sort-rules : (r : Rule) (w : What) → broken k h before r w ≡ true → can_break (code w.kind) r ≡ true
-  sort-rules r w e = by-test (can_break (code w.kind) r) (not-of-sort r w)
+  pub sort-rules : (r : Rule) (w : What) → broken k h before r w ≡ true → can_break w.kind r ≡ true
+  sort-rules r w e = by-test (can_break w.kind r) (not-of-sort r w)
     where
       by-test : (b : Bool) → (b ≡ false → broken k h before r w ≡ false) → b ≡ true
       by-test true n = refl
       by-test false n = absurd (true≢false (sym e ∙ n refl))
 
   -- the rules of the thing's sort are enough
-  pub clear-sort : (rs : List Rule) (w : What) → clear_of k h rs before w ≡ clear_of k h (of_sort (code w.kind) rs) before w
+  pub clear-sort : (rs : List Rule) (w : What) → clear_of k h rs before w ≡ clear_of k h (of_sort w.kind rs) before w
   unfolding clear_of of_sort
   clear-sort [] w = refl
-  clear-sort (r ∷ rs) w = rw (clear-sort rs w) (by-test (can_break (code w.kind) r) refl)
+  clear-sort (r ∷ rs) w = rw (clear-sort rs w) (by-test (can_break w.kind r) refl)
     where
-      by-test : (b : Bool) → can_break (code w.kind) r ≡ b
-          → (not (broken k h before r w) && clear_of k h (of_sort (code w.kind) rs) before w) ≡ clear_of k h (pick b (r ∷ of_sort (code w.kind) rs) (of_sort (code w.kind) rs)) before w
+      by-test : (b : Bool) → can_break w.kind r ≡ b
+          → (not (broken k h before r w) && clear_of k h (of_sort w.kind rs) before w) ≡ clear_of k h (pick b (r ∷ of_sort w.kind rs) (of_sort w.kind rs)) before w
       by-test true e = refl
       by-test false e = rw (not-of-sort r w e)
 
 -- 3. The rules of a look by sort
 
--- the numbers of the sorts
-abbrev sort_numbers : List ℕ
-sort_numbers = 0 ∷ 1 ∷ 2 ∷ 3 ∷ 4 ∷ 5 ∷ 6 ∷ 7 ∷ 8 ∷ 9 ∷ 10 ∷ 11 ∷ 12 ∷ []
+-- the sorts
+abbrev all_sorts : List Kind
+all_sorts = plain ∷ temp ∷ divert ∷ tunnel ∷ thread ∷ call ∷ variable ∷ argument ∷ choice ∷ gather ∷ parameter ∷ stitch_name ∷ flow_start ∷ []
+
+-- all at once
+all-looked : (inner function : Bool) → map (λ (k : Kind). of_sort k (look_rules inner function)) all_sorts ≡ map (look_table inner function) all_sorts
+unfolding look_rules of_sort can_break
+all-looked false false = refl
+all-looked false true = refl
+all-looked true false = refl
+all-looked true true = refl
 
 -- THE TABLE has at each sort the rules of a look that can be broken there
-pub look-table : (inner function : Bool) → map (λ (n : ℕ). of_sort n (look_rules inner function)) sort_numbers ≡ look_table inner function
-unfolding look_rules of_sort can_break
-look-table false false = refl
-look-table false true = refl
-look-table true false = refl
-look-table true true = refl
-
--- the table has those of a thing's sort
-looked : (inner function : Bool) (kind : Kind) → of_sort (code kind) (look_rules inner function) ≡ get_or (look_table inner function) (code kind) []
-looked inner function plain = ap (λ (l : List (List Rule)). get_or l 0 []) (look-table inner function)
-looked inner function temp = ap (λ (l : List (List Rule)). get_or l 1 []) (look-table inner function)
-looked inner function divert = ap (λ (l : List (List Rule)). get_or l 2 []) (look-table inner function)
-looked inner function tunnel = ap (λ (l : List (List Rule)). get_or l 3 []) (look-table inner function)
-looked inner function thread = ap (λ (l : List (List Rule)). get_or l 4 []) (look-table inner function)
-looked inner function call = ap (λ (l : List (List Rule)). get_or l 5 []) (look-table inner function)
-looked inner function variable = ap (λ (l : List (List Rule)). get_or l 6 []) (look-table inner function)
-looked inner function argument = ap (λ (l : List (List Rule)). get_or l 7 []) (look-table inner function)
-looked inner function choice = ap (λ (l : List (List Rule)). get_or l 8 []) (look-table inner function)
-looked inner function gather = ap (λ (l : List (List Rule)). get_or l 9 []) (look-table inner function)
-looked inner function parameter = ap (λ (l : List (List Rule)). get_or l 10 []) (look-table inner function)
-looked inner function stitch_name = ap (λ (l : List (List Rule)). get_or l 11 []) (look-table inner function)
-looked inner function flow_start = ap (λ (l : List (List Rule)). get_or l 12 []) (look-table inner function)
+pub look-table : (inner function : Bool) (sort : Kind) → of_sort sort (look_rules inner function) ≡ look_table inner function sort
+look-table inner function plain = ap (λ (l : List (List Rule)). get_or l 0 []) (all-looked inner function)
+look-table inner function temp = ap (λ (l : List (List Rule)). get_or l 1 []) (all-looked inner function)
+look-table inner function divert = ap (λ (l : List (List Rule)). get_or l 2 []) (all-looked inner function)
+look-table inner function tunnel = ap (λ (l : List (List Rule)). get_or l 3 []) (all-looked inner function)
+look-table inner function thread = ap (λ (l : List (List Rule)). get_or l 4 []) (all-looked inner function)
+look-table inner function call = ap (λ (l : List (List Rule)). get_or l 5 []) (all-looked inner function)
+look-table inner function variable = ap (λ (l : List (List Rule)). get_or l 6 []) (all-looked inner function)
+look-table inner function argument = ap (λ (l : List (List Rule)). get_or l 7 []) (all-looked inner function)
+look-table inner function choice = ap (λ (l : List (List Rule)). get_or l 8 []) (all-looked inner function)
+look-table inner function gather = ap (λ (l : List (List Rule)). get_or l 9 []) (all-looked inner function)
+look-table inner function parameter = ap (λ (l : List (List Rule)). get_or l 10 []) (all-looked inner function)
+look-table inner function stitch_name = ap (λ (l : List (List Rule)). get_or l 11 []) (all-looked inner function)
+look-table inner function flow_start = ap (λ (l : List (List Rule)). get_or l 12 []) (all-looked inner function)
 
 -- 4. At a thing
 
@@ -165,7 +167,7 @@ module _ (sections : Sections) (file kept : List ℕ) (at : At) where
       clear-go f = record { says = λ w i. u.says w i ∙ rw (e, ← test w i, f) }
 
   -- THE SORT of the thing decides which rules are tested
-  pub clear-by-sort : (inner function : Bool) {rs : List Rule} {x : Bool} → rs ≡ get_or (look_table inner function) at.thing.sort [] → ClearAt sections file kept at rs x
+  pub clear-by-sort : (inner function : Bool) {rs : List Rule} {x : Bool} → rs ≡ look_table inner function at.thing.sort → ClearAt sections file kept at rs x
       → ClearAt sections file kept at (look_rules inner function) x
   clear-by-sort inner function {rs} {x} e c = record { says = says }
     where
@@ -175,5 +177,5 @@ module _ (sections : Sections) (file kept : List ℕ) (at : At) where
           let k = known_in sections file in
           let h = here_in file kept at.scope in
           let before = before_at file kept at in
-          let own : of_sort (code w.kind) (look_rules inner function) ≡ rs = looked inner function w.kind ∙ ap (λ (n : ℕ). get_or (look_table inner function) n []) i.sort ∙ sym e in
+          let own : of_sort w.kind (look_rules inner function) ≡ rs = look-table inner function w.kind ∙ ap (look_table inner function) i.sort ∙ sym e in
           c.says w i ∙ sym (clear-sort k h before (look_rules inner function) w ∙ ap (λ (l : List Rule). clear_of k h l before w) own)

@@ -10,7 +10,9 @@ use lib.ListN.{length, get_or, drop, length-drop}
 use lib.Seq.{drop-drop, drop-cons, get_or-drop}
 use Rattle.story.specs.declared.Sections.{Sections}
 use Rattle.names.specs.Counted.{name_at}
-use Rattle.records.specs.Items.{Kind, code, parameter, stitch_name, flow_start, What, Item}
+use Rattle.records.specs.declared.sorts.Sort.{Sort as Kind}
+use Rattle.records.specs.declared.sorts.Sort.TheVariants.{Parameter as parameter, StitchName as stitch_name, FlowStart as flow_start}
+use Rattle.records.specs.Items.{What, Item}
 use Rattle.story.specs.Story.{Story, Flow}
 use Rattle.story.specs.Flows.{names_n, counted_in}
 use Rattle.story.proofs.Unfolding.{names-n-zero, names-n-none}
@@ -69,7 +71,7 @@ name-heard {sections} {file} {kept} {list} {list'} {v} {r} e told = record {
 
 -- a run over the name and other items: the others are left
 pub name-after : {sections : Sections} {file kept list list' : List ℕ} {v : NameVisit} {r : Tally} → NameHeard sections file kept list v r list'
-    → {s : rules.Scope} → ScopeIs file kept sections v.turn.scope s → (k : Kind) → code k ≡ v.sort
+    → {s : rules.Scope} → ScopeIs file kept sections v.turn.scope s → (k : Kind) → k ≡ v.sort
     → (step : Step) → step_of v.turn.step ≡ step → T (all_ahead (bracket step)) → (items : List Item)
     → hear_runs (kept_story sections file) (heard v.turn.tally list) (run s (name_item k v.place (named file v.named) ∷ items) step ∷ [])
     ≡ hear_runs (kept_story sections file) (heard r list') (run s items step ∷ [])
@@ -93,7 +95,7 @@ over-one s items step = refl
 
 -- the stitch's name was visited: that is the whole run
 pub stitch-name : {sections : Sections} {file kept list list' : List ℕ} (h : Heading) {r r' : Tally}
-    → NameHeard sections file kept list (record { turn = turn_of h StitchName h.tally; sort = 11; place = h.at; named = h.at }) r list' → r' ≡ passed 1 r
+    → NameHeard sections file kept list (record { turn = turn_of h StitchName h.tally; sort = stitch_name; place = h.at; named = h.at }) r list' → r' ≡ passed 1 r
     → (s : rules.Scope) → ScopeIs file kept sections h.scope s
     → heard r' list' ≡ hear_runs (kept_story sections file) (heard h.tally list) (over s (name_item stitch_name h.at (named file h.at) ∷ []) (s12 ∷ []))
 unfolding all_ahead looks_ahead
@@ -132,7 +134,7 @@ params-start file kept h list e =
 module _ {sections : Sections} {file kept : List ℕ} {h : Heading} {list₀ list : List ℕ} {tally : Tally} {left at : ℕ} (more : ParamsLeft sections file kept h list₀ list tally left at) where
   -- the next parameter was visited
   pub params-next : {left' : ℕ} → left' + 1 ≡ left → at < length file → {list' : List ℕ} {r : Tally}
-      → NameHeard sections file kept list (record { turn = turn_of h Parameters tally; sort = 10; place = at; named = at }) r list'
+      → NameHeard sections file kept list (record { turn = turn_of h Parameters tally; sort = parameter; place = at; named = at }) r list'
       → ParamsLeft sections file kept h list₀ list' r left' (at + (1 + get_or file at 0))
   unfolding all_ahead looks_ahead
   params-next {left'} p q told = record {
@@ -161,7 +163,7 @@ module _ {sections : Sections} {file kept : List ℕ} {h : Heading} {list₀ lis
 module _ {sections : Sections} {file kept : List ℕ} {h : Heading} (s : rules.Scope) (f : Flow) (k : ScopeIs file kept sections h.scope s) (same : FlowIs file kept h f) where
   -- a function: its first byte was visited, then its own list
   pub purity-function : {list list₁ list' : List ℕ} {t r : Tally} → h.function ≡ true
-      → NameHeard sections file kept list (record { turn = turn_of h Purity h.tally; sort = 12; place = h.at; named = h.scope.flow }) t list₁
+      → NameHeard sections file kept list (record { turn = turn_of h Purity h.tally; sort = flow_start; place = h.at; named = h.scope.flow }) t list₁
       → heard r list' ≡ hear_runs (kept_story sections file) (heard t list₁) (turn_run file kept (turn_of h Purity t) s ∷ [])
       → heard r list' ≡ hear_runs (kept_story sections file) (heard h.tally list) (over s (purity_items h.function f) (s5 ∷ []))
   unfolding all_ahead looks_ahead over

@@ -7,7 +7,9 @@ use Prim.Native.Nat.{ℕ}
 use native.Mathlib.Omega.{arith}
 use Rattle.names.specs.Words.{Bytes, only, each}
 use Rattle.names.specs.Counted.{name_at}
-use Rattle.records.specs.Items.{Kind, plain, temp, divert, tunnel, thread, call, variable, argument, choice, gather, parameter, stitch_name, flow_start, code, What}
+use Rattle.records.specs.declared.sorts.Sort.{Sort as Kind}
+use Rattle.records.specs.declared.sorts.Sort.TheVariants.{Plain as plain, Temp as temp, Divert as divert, Tunnel as tunnel, Thread as thread, Call as call, Variable as variable, Argument as argument, Choice as choice, Gather as gather, Parameter as parameter, StitchName as stitch_name, FlowStart as flow_start}
+use Rattle.records.specs.Items.{code, What}
 use Rattle.rules.specs.declared.Rule.{Rule}
 use Rattle.rules.specs.declared.Rule.TheVariants.{FunctionDivertedTo, TargetNotFound, FlowCalled, NameIsFunction, NameIsGlobal, TempIsParameter, TempIsLabel, ParameterUnmarked, ParameterAlreadyMarked, GatherRepeated, ChoiceUndiverted, FunctionWithStitches, FunctionWithChoice, FunctionWithDivert, VariableForbidden}
 use Rattle.rules.specs.Rules.{Known, Here, broken}
@@ -25,20 +27,20 @@ abbrev pub renamed : Bytes → What → What
 renamed n w = record { kind = w.kind; name = n; labels = w.labels; branch = w.branch; leaves = w.leaves }
 
 -- a choice, or not
-is-choice : (k : Kind) → (k ≡ choice) ⊎ (code k ≡ 8 → ⊥)
-is-choice plain = inr (λ e. omega arith)
-is-choice temp = inr (λ e. omega arith)
-is-choice divert = inr (λ e. omega arith)
-is-choice tunnel = inr (λ e. omega arith)
-is-choice thread = inr (λ e. omega arith)
-is-choice call = inr (λ e. omega arith)
-is-choice variable = inr (λ e. omega arith)
-is-choice argument = inr (λ e. omega arith)
+is-choice : (k : Kind) → (k ≡ choice) ⊎ (k ≡ choice → ⊥)
+is-choice plain = inr (λ e. omega (arith, ap code e))
+is-choice temp = inr (λ e. omega (arith, ap code e))
+is-choice divert = inr (λ e. omega (arith, ap code e))
+is-choice tunnel = inr (λ e. omega (arith, ap code e))
+is-choice thread = inr (λ e. omega (arith, ap code e))
+is-choice call = inr (λ e. omega (arith, ap code e))
+is-choice variable = inr (λ e. omega (arith, ap code e))
+is-choice argument = inr (λ e. omega (arith, ap code e))
 is-choice choice = inl refl
-is-choice gather = inr (λ e. omega arith)
-is-choice parameter = inr (λ e. omega arith)
-is-choice stitch_name = inr (λ e. omega arith)
-is-choice flow_start = inr (λ e. omega arith)
+is-choice gather = inr (λ e. omega (arith, ap code e))
+is-choice parameter = inr (λ e. omega (arith, ap code e))
+is-choice stitch_name = inr (λ e. omega (arith, ap code e))
+is-choice flow_start = inr (λ e. omega (arith, ap code e))
 
 module _ (k : Known) (h : Here) (before : List What) where
   -- no rule asks for the name of a choice
@@ -66,7 +68,7 @@ module _ (k : Known) (h : Here) (before : List What) where
   pub broken-like : {file : List ℕ} {t : Thing} {w : What} → LikeThing file t w → (r : Rule) → broken k h before r w ≡ broken k h before r (renamed (name_at file t.name) w)
   broken-like {file} {t} {w} l r = by_kind (is-choice w.kind)
     where
-      by_kind : (w.kind ≡ choice) ⊎ (code w.kind ≡ 8 → ⊥) → broken k h before r w ≡ broken k h before r (renamed (name_at file t.name) w)
+      by_kind : (w.kind ≡ choice) ⊎ (w.kind ≡ choice → ⊥) → broken k h before r w ≡ broken k h before r (renamed (name_at file t.name) w)
       by_kind (inl e) =
           ap (λ (q : Kind). broken k h before r (record { kind = q; name = w.name; labels = w.labels; branch = w.branch; leaves = w.leaves })) e
           ∙ choice-renamed r w.name (name_at file t.name) w.labels w.branch w.leaves

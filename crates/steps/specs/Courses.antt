@@ -1,5 +1,6 @@
 -- Inner contract. Steps along one body, one after the other: which they are, and what is ready. Assumes nothing.
 use Rattle.std.specs.Prelude.{ℕ, false, List}
+use Rattle.records.specs.declared.sorts.Sort.TheVariants.{Plain}
 use Rattle.items.specs.Bodies.{items_at}
 use Rattle.rules.specs.Rules as rules
 use Rattle.rules.specs.Steps.{Run, over}
@@ -25,7 +26,7 @@ abbrev pub look_at : Course → Rests → At
 look_at c rests = record {
   scope = c.scope;
   rests = rests;
-  thing = record { sort = 0; name = 0; branch = false; leaves = false };
+  thing = record { sort = Plain; name = 0; branch = false; leaves = false };
   number = 0;
 }
 

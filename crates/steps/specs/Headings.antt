@@ -2,7 +2,7 @@
 use Rattle.story.specs.declared.Sections.{Sections}
 use Rattle.std.specs.Prelude.{ℕ, ◌≡◌, false, List, []}
 use Rattle.names.specs.Counted.{name_at}
-use Rattle.records.specs.Items.{Kind, code}
+use Rattle.records.specs.declared.sorts.Sort.{Sort as Kind}
 use Rattle.story.specs.Story.{Name, Flow}
 use Rattle.items.specs.Bodies.{items_at, kept_story}
 use Rattle.rules.specs.Rules as rules
@@ -48,7 +48,7 @@ name_visit v = record {
 
 -- what the step finds at the name was heard, in whatever scope of the rules the code's numbers stand for
 pub record NameHeard (sections : Sections) (file kept list : List ℕ) (v : NameVisit) (r : Tally) (list' : List ℕ) : Type 0 where
-  pub says : (s : rules.Scope) (k : Kind) → ScopeIs file kept sections v.turn.scope s → code k ≡ v.sort
+  pub says : (s : rules.Scope) (k : Kind) → ScopeIs file kept sections v.turn.scope s → k ≡ v.sort
       → heard r list'
       ≡ hear_all (heard v.turn.tally list)
       (in_visit (kept_story sections file) (run_now (heard v.turn.tally list) (run s [] (step_of v.turn.step))) (record { item = name_item k v.place (named file v.named); before = [] }))

@@ -1,10 +1,12 @@
 -- Inner contract. One look at a body, in front of its runs: the rules that it tests, at each sort of thing those that can be broken there,
 -- and what it answers. Assumes nothing.
 use Rattle.story.specs.declared.Sections.{Sections}
-use Rattle.std.specs.Prelude.{ℕ, ◌≡◌, Bool, true, false, List, [], ◌∷◌, ◌++◌, eqb}
+use Rattle.std.specs.Prelude.{ℕ, ◌≡◌, Bool, true, false, List, [], ◌∷◌, ◌++◌}
 use Rattle.fields.specs.Bytes.{pick}
 use Rattle.names.specs.Words.{any}
-use Rattle.records.specs.Items.{Kind, temp, divert, tunnel, thread, call, variable, argument, choice, gather, parameter, stitch_name, flow_start, code, What}
+use Rattle.records.specs.declared.sorts.Sort.{Sort as Kind}
+use Rattle.records.specs.declared.sorts.Sort.TheVariants.{Plain as plain, Temp as temp, Divert as divert, Tunnel as tunnel, Thread as thread, Call as call, Variable as variable, Argument as argument, Choice as choice, Gather as gather, Parameter as parameter, StitchName as stitch_name, FlowStart as flow_start}
+use Rattle.records.specs.Items.{What, same_kind}
 use Rattle.rules.specs.declared.Rule.{Rule}
 use Rattle.rules.specs.declared.Rule.TheVariants.{FunctionDivertedTo, TargetNotFound, FlowCalled, NameIsFunction, NameIsGlobal, TempIsParameter, TempIsLabel, ParameterUnmarked, ParameterAlreadyMarked, GatherRepeated, ChoiceUndiverted, FunctionWithStitches, FunctionWithChoice, FunctionWithDivert, VariableForbidden}
 use Rattle.broken.specs.declared.At.{At}
@@ -61,12 +63,12 @@ sorts_of FunctionWithChoice = choice ∷ []
 sorts_of FunctionWithDivert = divert ∷ []
 sorts_of VariableForbidden = variable ∷ []
 
--- the rule can be broken at a thing of the sort with this number
-unfoldable pub can_break : ℕ → Rule → Bool
-can_break sort r = any (λ (k : Kind). eqb (code k) sort) (sorts_of r)
+-- the rule can be broken at a thing of the sort
+unfoldable pub can_break : Kind → Rule → Bool
+can_break sort r = any (λ (k : Kind). same_kind k sort) (sorts_of r)
 
 -- of the rules, those that can be broken at a thing of the sort
-unfoldable pub of_sort : ℕ → List Rule → List Rule
+unfoldable pub of_sort : Kind → List Rule → List Rule
 of_sort sort [] = []
 of_sort sort (r ∷ rs) = pick (can_break sort r) (r ∷ of_sort sort rs) (of_sort sort rs)
 
@@ -90,23 +92,21 @@ abbrev pub choice_rules : Bool → Bool → List Rule
 choice_rules inner true = FunctionWithChoice ∷ led_rules inner
 choice_rules inner false = led_rules inner
 
--- THE TABLE: the rules that a look tests at a thing of each sort, by the sort's number
-abbrev pub look_table : Bool → Bool → List (List Rule)
-look_table inner function =
-    []
-    ∷ temp_rules
-    ∷ divert_rules function
-    ∷ target_rules
-    ∷ target_rules
-    ∷ (FlowCalled ∷ [])
-    ∷ variable_rules inner
-    ∷ (ParameterAlreadyMarked ∷ [])
-    ∷ choice_rules inner function
-    ∷ (GatherRepeated ∷ [])
-    ∷ (NameIsFunction ∷ [])
-    ∷ []
-    ∷ []
-    ∷ []
+-- THE TABLE: the rules that a look tests at a thing of each sort
+abbrev pub look_table : Bool → Bool → Kind → List Rule
+look_table inner function plain = []
+look_table inner function temp = temp_rules
+look_table inner function divert = divert_rules function
+look_table inner function tunnel = target_rules
+look_table inner function thread = target_rules
+look_table inner function call = FlowCalled ∷ []
+look_table inner function variable = variable_rules inner
+look_table inner function argument = ParameterAlreadyMarked ∷ []
+look_table inner function choice = choice_rules inner function
+look_table inner function gather = GatherRepeated ∷ []
+look_table inner function parameter = NameIsFunction ∷ []
+look_table inner function stitch_name = []
+look_table inner function flow_start = []
 
 -- 3. WHAT A LOOK ANSWERS
 

@@ -3,7 +3,8 @@ use Rattle.story.specs.declared.Sections.{Sections}
 use Rattle.std.specs.Prelude.{ℕ, ◌+◌, ◌≡◌, List}
 use Rattle.names.specs.Words.{only, each}
 use Rattle.names.specs.Counted.{name_at}
-use Rattle.records.specs.Items.{code, What, Item, name_start}
+use Rattle.records.specs.declared.sorts.Sort.TheVariants.{Choice as choice}
+use Rattle.records.specs.Items.{What, Item, name_start}
 use Rattle.records.specs.Numbers.{place_in, sort_in, branch_in, leaves_in}
 use Rattle.rules.specs.declared.Rule.{Rule}
 use Rattle.rules.specs.Rules.{broken}
@@ -15,18 +16,18 @@ use Rattle.steps.specs.Heard.{breach_of}
 
 -- the thing is of the sort, stands and leaves so, and, where it is no choice, bears the name that the file has at its place: a choice may have none
 pub record LikeThing (file : List ℕ) (t : Thing) (w : What) : Type 0 where
-  pub sort : code w.kind ≡ t.sort
-  pub named : (code w.kind ≡ 8 → ⊥) → w.name ≡ name_at file t.name
+  pub sort : w.kind ≡ t.sort
+  pub named : (w.kind ≡ choice → ⊥) → w.name ≡ name_at file t.name
   pub branch : w.branch ≡ t.branch
   pub leaves : w.leaves ≡ t.leaves
 
 -- the item, where it is no choice, bears the name that the file has at its place
 abbrev pub BearsName : List ℕ → Item → Type 0
-BearsName file i = (code i.what.kind ≡ 8 → ⊥) → i.what.name ≡ name_at file i.named
+BearsName file i = (i.what.kind ≡ choice → ⊥) → i.what.name ≡ name_at file i.named
 
 -- the thing of a kept item
 abbrev pub thing_of : ℕ → Thing
-thing_of x = record { sort = code (sort_in x); name = place_in x + (5 + name_start (sort_in x)); branch = branch_in x; leaves = leaves_in x }
+thing_of x = record { sort = sort_in x; name = place_in x + (5 + name_start (sort_in x)); branch = branch_in x; leaves = leaves_in x }
 
 -- the breaches at what is visited, by the rules
 abbrev pub found : Sections → List ℕ → List ℕ → Visit → List Rule → What → List Breach

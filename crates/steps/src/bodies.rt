@@ -18,6 +18,7 @@ use crate::nodes::{Turn, validate_nodes};
 use crate::{Tally, is_full, pass_runs};
 use broken::asked::Story;
 use broken::{At, Rests, Scope, Thing};
+use records::sorts::Sort;
 
 // Steps along a body: where they run, the numbers of the items from which on the names are in no set, which steps, whether the body is a
 // function's own list, and what was heard before.
@@ -90,7 +91,7 @@ fn look_at(c: Course, rests: Rests) -> At
 {
     let scope = c.scope;
     let thing = Thing {
-        sort: 0,
+        sort: Sort::Plain,
         name: 0,
         branch: false,
         leaves: false,

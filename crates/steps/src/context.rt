@@ -90,10 +90,7 @@ fn validate_stitches(
     let mut tally = k.tally;
     let mut at = k.flow.stitches;
     let mut start = k.scope.own;
-    loop {
-        let Some(w) = stitch_view(story.file, at, k.flow.end) else {
-            return tally;
-        };
+    while let Some(w) = stitch_view(story.file, at, k.flow.end) {
         if is_full(tally) {
             return tally;
         }
@@ -106,6 +103,7 @@ fn validate_stitches(
         at = w.end;
         start = index_from(story.kept, start, at);
     }
+    tally
 }
 
 // Steps 5 and 6, of a flow: nothing is asked of a body's set.
@@ -231,10 +229,7 @@ fn validate_flows(
     let mut tally = t.tally;
     let mut at = story.view.sections.flows;
     let mut start = t.start;
-    loop {
-        let Some(flow) = flow_view(story.file, at, story.view.sections.end) else {
-            return tally;
-        };
+    while let Some(flow) = flow_view(story.file, at, story.view.sections.end) {
         if is_full(tally) {
             return tally;
         }
@@ -245,6 +240,7 @@ fn validate_flows(
         at = flow.end;
         start = index_from(story.kept, start, at);
     }
+    tally
 }
 
 // Steps along the root, after what was heard.

@@ -1,6 +1,6 @@
 // The steps that visit names: step 12, a stitch's name; step 6, a flow's parameters; step 5, a function's first byte, and then its own list.
 ghost use Rattle.std.specs.Prelude.{◌≡◌, [], ◌∷◌, ◌<◌, length, drop};
-ghost use Rattle.records.specs.Items.{stitch_name};
+ghost use Rattle.records.specs.declared.sorts.Sort.TheVariants.{StitchName as stitch_name};
 ghost use Rattle.story.specs.Story.{Flow};
 ghost use Rattle.story.specs.Flows.{counted_in};
 ghost use Rattle.items.specs.Bodies.{kept_story};
@@ -15,8 +15,8 @@ use crate::nodes::{Turn, validate_nodes};
 use crate::visits::{Visit, visit_thing};
 use crate::{Tally, is_full, next_run};
 use broken::asked::Story;
-use broken::things::{FLOW_START, PARAMETER, STITCH_NAME};
 use broken::{At, Rests, Scope, Thing};
+use records::sorts::Sort;
 
 // A heading: where the steps on it run, the numbers of the items from which on the names are in no set, the place of the stitch's name or
 // of the flow's first byte, whether the flow is a function, and what was heard before.
@@ -33,7 +33,7 @@ pub struct Heading {
 #[derive(Clone, Copy)]
 pub struct NameVisit {
     pub turn: Turn,
-    pub sort: u8,
+    pub sort: Sort,
     pub place: usize,
     pub named: usize,
 }
@@ -112,7 +112,7 @@ pub fn validate_stitch_name(
     let turn = turn_of(h, Step::StitchName, tally);
     let v = NameVisit {
         turn,
-        sort: STITCH_NAME,
+        sort: Sort::StitchName,
         place: h.at,
         named: h.at,
     };
@@ -145,7 +145,7 @@ pub fn validate_flow_parameter_names(
         let turn = turn_of(h, Step::Parameters, tally);
         let v = NameVisit {
             turn,
-            sort: PARAMETER,
+            sort: Sort::Parameter,
             place: at,
             named: at,
         };
@@ -173,7 +173,7 @@ pub fn validate_function_purity(
         let flow = h.scope.flow;
         let v = NameVisit {
             turn: first,
-            sort: FLOW_START,
+            sort: Sort::FlowStart,
             place: h.at,
             named: flow,
         };

@@ -1,5 +1,5 @@
 // One look at a body, in front of its runs: whether no rule is broken at any of its items.
-ghost use Rattle.std.specs.Prelude.{◌≡◌, [], get_or};
+ghost use Rattle.std.specs.Prelude.{◌≡◌, []};
 ghost use Rattle.items.specs.Bodies.{items_at};
 ghost use Rattle.broken.specs.Scopes.{known_in, here_in, body_run};
 ghost use Rattle.steps.specs.Clear.{clear_along};
@@ -7,10 +7,9 @@ ghost use Rattle.steps.specs.Looks.{look_rules, look_table, ClearAt, at_item, Lo
 
 use crate::visits::thing_of;
 use broken::asked::{Asked, Story};
-use broken::things::PARAMETER;
 use broken::{At, Rests, Thing};
 use items::named::Sought;
-use records::sorts::{ARGUMENT, CALL, CHOICE, DIVERT, GATHER, TEMP, THREAD, TUNNEL, VARIABLE};
+use records::sorts::Sort;
 use rules::Rule;
 use sets::Class;
 use sets::members::put_next;
@@ -23,16 +22,16 @@ pub struct Look {
 }
 
 // The rules of a look that can be broken at a thing of the sort, the cheapest first.
-fn rules_at(look: Look, sort: u8) -> &'static [Rule]
-    ensures { result.now ≡ get_or (look_table look.inner look.function) sort [] }
+fn rules_at(look: Look, sort: Sort) -> &'static [Rule]
+    ensures { result.now ≡ look_table look.inner look.function sort }
 {
     match sort {
-        TEMP => &[
+        Sort::Temp => &[
             Rule::TempIsParameter,
             Rule::NameIsFunction,
             Rule::TempIsLabel,
         ],
-        DIVERT => {
+        Sort::Divert => {
             if look.function {
                 &[
                     Rule::FunctionWithDivert,
@@ -48,29 +47,29 @@ fn rules_at(look: Look, sort: u8) -> &'static [Rule]
                 ]
             }
         }
-        TUNNEL | THREAD => &[
+        Sort::Tunnel | Sort::Thread => &[
             Rule::ParameterUnmarked,
             Rule::FunctionDivertedTo,
             Rule::TargetNotFound,
         ],
-        CALL => &[Rule::FlowCalled],
-        VARIABLE => {
+        Sort::Call => &[Rule::FlowCalled],
+        Sort::Variable => {
             if look.inner {
                 &[Rule::VariableForbidden]
             } else {
                 &[]
             }
         }
-        ARGUMENT => &[Rule::ParameterAlreadyMarked],
-        CHOICE => match (look.function, look.inner) {
+        Sort::Argument => &[Rule::ParameterAlreadyMarked],
+        Sort::Choice => match (look.function, look.inner) {
             (true, true) => &[Rule::FunctionWithChoice],
             (true, false) => &[Rule::FunctionWithChoice, Rule::ChoiceUndiverted],
             (false, true) => &[],
             (false, false) => &[Rule::ChoiceUndiverted],
         },
-        GATHER => &[Rule::GatherRepeated],
-        PARAMETER => &[Rule::NameIsFunction],
-        _ => &[],
+        Sort::Gather => &[Rule::GatherRepeated],
+        Sort::Parameter => &[Rule::NameIsFunction],
+        Sort::Plain | Sort::StitchName | Sort::FlowStart => &[],
     }
 }
 

@@ -14,7 +14,8 @@ use Rattle.records.specs.Trace.{Trace, done, refuse, emit, met, Ending, well, re
 use Rattle.records.specs.Grammar.{Reading, nodes}
 use Rattle.records.proofs.Places.{Placed, Places, nodes-places}
 use Rattle.story.specs.declared.Sections.{Sections}
-use Rattle.records.specs.Items.{plain, is, Item, item_as, item_of, items_ended, items_in}
+use Rattle.records.specs.declared.sorts.Sort.TheVariants.{Plain as plain}
+use Rattle.records.specs.Items.{is, Item, item_as, item_of, items_ended, items_in}
 use Rattle.story.specs.Flows.{flows, flows_in, stitch, stitches, stitch_in, pieces_in, part}
 use Rattle.story.specs.File.{story_in, InOrder}
 use Rattle.story.proofs.Parts.{part_length}

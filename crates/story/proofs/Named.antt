@@ -19,7 +19,9 @@ use Rattle.names.specs.Counted.{name_at}
 use Rattle.records.specs.Trace.{Record, met, well, ends}
 use Rattle.records.specs.Grammar.{nodes}
 use Rattle.records.proofs.Places.{stands-in-file, lies_within, drop-take}
-use Rattle.records.specs.Items.{Kind, plain, temp, divert, tunnel, thread, call, variable, argument, choice, gather, parameter, stitch_name, flow_start, code, Item, name_in, sort_of, name_start, nameless, record_name, labelled, what_of, item_as, item_of, items_in}
+use Rattle.records.specs.declared.sorts.Sort.{Sort as Kind}
+use Rattle.records.specs.declared.sorts.Sort.TheVariants.{Plain as plain, Temp as temp, Divert as divert, Tunnel as tunnel, Thread as thread, Call as call, Variable as variable, Argument as argument, Choice as choice, Gather as gather, Parameter as parameter, StitchName as stitch_name, FlowStart as flow_start}
+use Rattle.records.specs.Items.{code, Item, name_in, sort_of, name_start, nameless, record_name, labelled, what_of, item_as, item_of, items_in}
 use Rattle.story.specs.Story.{Name}
 use Rattle.story.specs.Headings.{reach_at, names_reach, counted_reach}
 use Rattle.story.specs.Flows.{names, names_n, counted_in, part}

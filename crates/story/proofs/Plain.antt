@@ -14,7 +14,9 @@ use Rattle.fields.specs.Bytes.{pick}
 use Rattle.names.specs.Words.{only, each}
 use Rattle.records.specs.Trace.{Record}
 use Rattle.story.specs.declared.Sections.{Sections}
-use Rattle.records.specs.Items.{Kind, plain, temp, divert, tunnel, thread, call, variable, argument, choice, gather, parameter, stitch_name, flow_start, code, What, is, Item, labelled, what_of, item_as, item_of, items_in}
+use Rattle.records.specs.declared.sorts.Sort.{Sort as Kind}
+use Rattle.records.specs.declared.sorts.Sort.TheVariants.{Plain as plain, Temp as temp, Divert as divert, Tunnel as tunnel, Thread as thread, Call as call, Variable as variable, Argument as argument, Choice as choice, Gather as gather, Parameter as parameter, StitchName as stitch_name, FlowStart as flow_start}
+use Rattle.records.specs.Items.{code, What, is, Item, labelled, what_of, item_as, item_of, items_in}
 use Rattle.story.specs.Story.{Name, Stitch, Flow, Story, words}
 use Rattle.story.specs.Headings.{heading_of}
 use Rattle.story.specs.Flows.{part, titled_at, titled_in, stitch_in, title_end, flow_in, flows_in}

@@ -17,7 +17,9 @@ use Rattle.fields.specs.Bytes.{Span, pick, name_of, flag_of}
 use Rattle.fields.specs.Kinds.{expr_kinds, expr_kind, cond_kinds, cond_kind, node_kinds, node_kind, kind_of}
 use Rattle.records.specs.Trace.{refuse, shift, well, ends}
 use Rattle.records.specs.Grammar.{Reading, Reader, named_at, named, flagged_at, flagged, moded, records, exact, ending, options, body_of, record_of}
-use Rattle.records.specs.Items.{Kind, plain, temp, divert, tunnel, thread, call, variable, argument, choice, gather, assigned, node_sorts, cond_sorts, expr_sorts, argument_sorts, sort_of, name_start, nameless}
+use Rattle.records.specs.declared.sorts.Sort.{Sort as Kind}
+use Rattle.records.specs.declared.sorts.Sort.TheVariants.{Plain as plain, Temp as temp, Divert as divert, Tunnel as tunnel, Thread as thread, Call as call, Variable as variable, Argument as argument, Choice as choice, Gather as gather}
+use Rattle.records.specs.Items.{assigned, node_sorts, cond_sorts, expr_sorts, argument_sorts, sort_of, name_start, nameless}
 use Rattle.story.proofs.Endings.{ends-shift}
 use Rattle.story.proofs.WellInside.{Bears}
 

@@ -17,7 +17,9 @@ use Rattle.records.specs.Trace.{Record, well, ends, met, Ending, refused}
 use Rattle.records.specs.Grammar.{Reading, nodes}
 use Rattle.records.specs.Stands.{Stands}
 use Rattle.records.proofs.Places.{stands-drop, stands-fits, stands-take, Places, nodes-places, met-placed}
-use Rattle.records.specs.Items.{Kind, plain, temp, divert, tunnel, thread, call, variable, argument, choice, gather, parameter, stitch_name, flow_start, code, is, Item, node_sorts, cond_sorts, expr_sorts, argument_sorts, sort_of, what_of, item_as, item_of, items_ended, items_in}
+use Rattle.records.specs.declared.sorts.Sort.{Sort as Kind}
+use Rattle.records.specs.declared.sorts.Sort.TheVariants.{Plain as plain, Temp as temp, Divert as divert, Tunnel as tunnel, Thread as thread, Call as call, Variable as variable, Argument as argument, Choice as choice, Gather as gather, Parameter as parameter, StitchName as stitch_name, FlowStart as flow_start}
+use Rattle.records.specs.Items.{code, is, Item, node_sorts, cond_sorts, expr_sorts, argument_sorts, sort_of, what_of, item_as, item_of, items_ended, items_in}
 use Rattle.story.specs.Flows.{part}
 use Rattle.story.specs.Plain.{not_plain}
 use Rattle.records.specs.Numbers.{bit, mark_of, number_of, kept_numbers, place_in, sorts, sort_in, branch_in, labels_in, leaves_in, payload_behind, payload_at, item_in}

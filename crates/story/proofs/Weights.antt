@@ -22,7 +22,9 @@ use Rattle.fields.proofs.Laws.{head-fits, list-fits, name-fits, off-fits, on_fit
 use Rattle.records.specs.Trace.{Trace, done, refuse, emit, and_then, shift, met, Ending, well, refused, ends}
 use Rattle.records.specs.Grammar.{Reading, Reader, front_at, front, ending, repeat_n, repeat, records, exact, piece_at, listed, named_at, named, flagged_at, flagged, moded, last, or_else, arms, options, tested, branch, body_of, whole, too_deep, record_of, nodes, piece}
 use Rattle.story.specs.declared.Sections.{Sections}
-use Rattle.records.specs.Items.{Kind, plain, code, sort_of, what_of, item_as, item_of}
+use Rattle.records.specs.declared.sorts.Sort.{Sort as Kind}
+use Rattle.records.specs.declared.sorts.Sort.TheVariants.{Plain as plain}
+use Rattle.records.specs.Items.{code, sort_of, what_of, item_as, item_of}
 use Rattle.story.specs.Headings.{heading_of}
 use Rattle.story.specs.Flows.{names, titled, stitch, stitches, flow, flows, part}
 use Rattle.story.specs.File.{sections_read, story_in, InOrder}

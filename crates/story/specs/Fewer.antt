@@ -1,6 +1,7 @@
 -- A story of which some plain items are left out, whose places may differ. Assumes nothing.
 use Rattle.std.specs.Prelude.{◌≡◌, false, List, [], ◌∷◌, ℕ}
-use Rattle.records.specs.Items.{plain, What, Item}
+use Rattle.records.specs.declared.sorts.Sort.TheVariants.{Plain as plain}
+use Rattle.records.specs.Items.{What, Item}
 use Rattle.story.specs.Story.{Name, Stitch, Flow, Story, words}
 
 -- each of the one list stands in R to that of the other at its place

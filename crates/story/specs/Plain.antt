@@ -2,7 +2,8 @@
 use Rattle.std.specs.Prelude.{◌≡◌, true, false}
 use mathlib.Core.List.{List, [], ◌∷◌, map, Memᴰ}
 use Rattle.fields.specs.Bytes.{pick}
-use Rattle.records.specs.Items.{plain, is, Item}
+use Rattle.records.specs.declared.sorts.Sort.TheVariants.{Plain as plain}
+use Rattle.records.specs.Items.{is, Item}
 use Rattle.story.specs.Story.{Stitch, Flow, Story}
 
 -- the items that are not plain

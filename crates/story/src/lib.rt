@@ -14,6 +14,7 @@ pub mod trailer;
 use crate::flows::{read_flows, read_names};
 use crate::trailer::read_trailer;
 use fields::Refusal;
+use records::part::Part;
 use records::{MET, walk_nodes};
 
 // The sections' starts after the first, which is 0, and the place of the trailer.
@@ -45,8 +46,16 @@ fn read_sections(file: &[u8], c: Sections, out: &mut [u32]) -> Result<usize, Ref
     let end = c.end;
     read_names(&file[0..externals])?;
     read_names(&file[externals..root])?;
-    let m = walk_nodes(&file[root..flows], root, out, 0)?;
-    read_flows(&file[flows..end], flows, out, m)
+    let root_nodes = Part {
+        bytes: &file[root..flows],
+        base: root,
+    };
+    let m = walk_nodes(root_nodes, out, 0)?;
+    let all_flows = Part {
+        bytes: &file[flows..end],
+        base: flows,
+    };
+    read_flows(all_flows, out, m)
 }
 
 // The refusal of a file, and nothing of the file left in the buffer.

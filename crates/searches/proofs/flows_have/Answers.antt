@@ -10,8 +10,8 @@ use Rattle.searches.proofs.flows_have.Goals as goal
 pub loop-e-init : goal.loop-e-init
 loop-e-init c = (search rules, refl)
 
-pub returns-in_default : goal.returns-in_default
-returns-in_default c =
+pub returns : goal.returns
+returns c =
     let a = c.args in
     let l = c.loop-e in
     rw l.invariant.1 (flows-none a.function a.name.now l.t.now c.in_default.field-0 c.read_list.ensures c.in_default.is)

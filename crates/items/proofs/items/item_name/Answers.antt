@@ -6,7 +6,7 @@ pub returns-then-is_nameless : goal.returns-then-is_nameless
 returns-then-is_nameless c =
     let file = c.args.file.now in
     item-nameless file c.args.item (rw (← c.place_in.ensures.0) c.payload_at-payload.ensures)
-    (c.is_nameless.ensures _ (c.sort_in-sort.ensures file)) c.if-is_nameless.true
+    (rw (c.sort_in-sort.ensures file) at c.is_nameless.ensures) c.if-is_nameless.true
 
 pub returns : goal.returns
 returns c =
@@ -14,4 +14,4 @@ returns c =
     let sort-in = c.sort_in-sort in
     let is-nameless = c.is_nameless in
     item-named-there file c.args.item (rw (← c.place_in.ensures.0) c.payload_at-payload.ensures)
-    (is-nameless.ensures _ (sort-in.ensures file)) c.if-is_nameless.false (c.name_start.ensures _ (sort-in.ensures file)) c.name_at.ensures
+    (rw (sort-in.ensures file) at is-nameless.ensures) c.if-is_nameless.false (rw (sort-in.ensures file) at c.name_start.ensures) c.name_at.ensures

@@ -8,8 +8,8 @@ use Rattle.steps.proofs.context.validate_flows.Goals as goal
 pub loop-flow-init : goal.loop-flow-init
 loop-flow-init c = flowing-start c.requires c.args.story.now.targets_ready.read _
 
-pub returns-in_default : goal.returns-in_default
-returns-in_default c = through-end c.loop-flow.invariant.through (flows-none _ _ _ _ c.loop-flow.invariant.readable c.flow_view.ensures c.in_default.is)
+pub returns : goal.returns
+returns c = through-end c.loop-flow.invariant.through (flows-none _ _ _ _ c.loop-flow.invariant.readable c.flow_view.ensures c.in_default.is)
 
 pub returns-then-is_full : goal.returns-then-is_full
 returns-then-is_full c = through-full c.loop-flow.invariant.through (sym c.is_full.ensures ∙ c.if-is_full.true)

@@ -5,8 +5,8 @@ use Rattle.steps.proofs.Seen.{no-stitches, stitches-fewer}
 use Rattle.steps.proofs.Stories.{stitching-ready, stitching-onward, stitching-next}
 use Rattle.steps.proofs.context.validate_stitches.Goals as goal
 
-pub returns-in_default : goal.returns-in_default
-returns-in_default c = through-end c.loop-w.invariant.through (no-stitches _ _ _ c.loop-w.invariant.readable c.stitch_view.ensures c.in_default.is)
+pub returns : goal.returns
+returns c = through-end c.loop-w.invariant.through (no-stitches _ _ _ c.loop-w.invariant.readable c.stitch_view.ensures c.in_default.is)
 
 pub returns-then-is_full : goal.returns-then-is_full
 returns-then-is_full c = through-full c.loop-w.invariant.through (sym c.is_full.ensures ∙ c.if-is_full.true)

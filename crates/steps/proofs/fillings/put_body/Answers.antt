@@ -1,5 +1,4 @@
 -- `fillings::put_body` meets its contract: temps that are not put are all left. Assumes nothing.
-use native.Mathlib.Omega.{arith}
 use Rattle.story.specs.Flows.{part}
 use Rattle.sets.proofs.Holding.{empty-without}
 use Rattle.items.proofs.Standing.{stand-part}

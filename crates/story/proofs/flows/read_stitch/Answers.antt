@@ -11,10 +11,10 @@ pub returns-in_err-end : goal.returns-in_err-end
 unfolding stitch
 returns-in_err-end c =
     let a = c.args in
-    rw (handed_on c.from_residual.result c.from_residual.ensures.1) (titled-else keeping a.base (st a.out.now a.n) a.s.now c.read_title.ensures ending c.in_err-end.field-0.0 c.in_err-end.was)
+    rw (handed_on c.from_residual.result c.from_residual.ensures.1) (titled-else keeping a.p.base (st a.out.now a.n) a.p.bytes.now c.read_title.ensures ending c.in_err-end.field-0.0 c.in_err-end.was)
 
 pub returns : goal.returns
 unfolding stitch
 returns c =
     let a = c.args in
-    rw (titled-on keeping a.base (st a.out.now a.n) a.s.now c.read_title.ensures ending c.in_ok-end.end c.in_ok-end.m c.in_ok-end.was) (told-end keeping _ _ _ c.at_end.ensures)
+    rw (titled-on keeping a.p.base (st a.out.now a.n) a.p.bytes.now c.read_title.ensures ending c.in_ok-end.end c.in_ok-end.m c.in_ok-end.was) (told-end keeping _ _ _ c.at_end.ensures)
