@@ -51,6 +51,9 @@ module _ (file : List ℕ) (c : Sections) (n : Bytes) {r : Bool} where
   unfolding known without_plain
   external_asked e = e
 
+-- what the set of the story's names answers
+pub ruleset names_asked = (function_asked, flow_asked, global_asked, external_asked)
+
 -- 2. Targets
 
 -- some word answers: it is the target, or it ends in "." and the target

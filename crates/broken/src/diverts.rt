@@ -1,76 +1,74 @@
 // Targets, calls and variable diverts: rules 1, 2, 3, 8 and 9 (diverts.rs).
-ghost use Rattle.std.specs.Prelude.{◌≡◌};
+#![tactic(auto, using(crate::proofs::Answered::names_asked), unfolding(rules::specs::Rules::broken, crate::specs::Scopes::here_in))]
+
+ghost use Rattle.std.specs.Prelude.{◌≡◌, ◌≤◌, List, ℕ, length};
 ghost use Rattle.records.specs.Items.{What};
 ghost use Rattle.rules.specs.declared.Rule.TheVariants as Rule;
-ghost use Rattle.rules.specs.Rules.{call_passes};
+ghost use Rattle.rules.specs.Rules as rules;
+ghost use Rattle.rules.specs.Rules.{broken};
 ghost use Rattle.broken.specs.Things.{ThingIs};
-ghost use Rattle.broken.specs.Scopes.{known_in, broken_at};
+ghost use Rattle.broken.specs.Scopes.{known_in, here_in};
 
-use crate::asked::Asked;
-use names::{is_builtin_function, passes};
+use crate::asked::Story;
+use crate::known::{call_passes, is_counted, is_target};
+use crate::{Scope, Thing};
+use names::{name_at, passes};
 use records::sorts::Sort;
+use sets::known::Known;
 
-impl Asked<'_, '_> {
+impl Thing {
     // Rule 1: a function diverted to.
-    #[tactic(auto, unfolding(rules::specs::Rules::broken, crate::specs::Scopes::here_in))]
-    pub fn is_function_diverted_to(&self) -> bool
-        ensures { (w : What) → ThingIs self.now.story.now.file.now self.now.at.thing w → result ≡ broken_at self.now.story.now.view.sections self.now.story.now.file.now self.now.story.now.kept.now self.now.at Rule.FunctionDivertedTo w }
+    pub fn is_function_diverted_to(&self, known: &Known<'_>) -> bool
+        ensures { (h : rules.Here) (before : List What) (w : What) → ThingIs known.now.file.now self.now w → result ≡ broken (known_in known.now.sections known.now.file.now) h before Rule.FunctionDivertedTo w }
     {
-        if self.at.thing.has_target() {
-            let target = self.name();
-            return !passes(target) && self.is_function(target);
+        if self.has_target() {
+            let target = name_at(known.file, self.name);
+            return !passes(target) && known.is_function(target);
         }
         false
     }
 
     // Rule 2: a target that is not found.
-    #[tactic(auto, unfolding(rules::specs::Rules::broken, crate::specs::Scopes::here_in))]
-    pub fn is_target_not_found(&self) -> bool
-        ensures { (w : What) → ThingIs self.now.story.now.file.now self.now.at.thing w → result ≡ broken_at self.now.story.now.view.sections self.now.story.now.file.now self.now.story.now.kept.now self.now.at Rule.TargetNotFound w }
+    pub fn is_target_not_found(&self, story: &Story<'_>) -> bool
+        ensures { (h : rules.Here) (before : List What) (w : What) → ThingIs story.now.file.now self.now w → result ≡ broken (known_in story.now.view.sections story.now.file.now) h before Rule.TargetNotFound w }
     {
-        if self.at.thing.has_target() {
-            let target = self.name();
-            return !passes(target) && !self.is_function(target) && !self.is_target(target);
+        if self.has_target() {
+            let target = name_at(story.file, self.name);
+            return !passes(target)
+                && !story.known().is_function(target)
+                && !is_target(story.file, story.kept, story.targets, story.view, target);
         }
         false
     }
 
-    // A call name passes if it is a function's, an external's or one of the 21 words.
-    fn call_passes(&self, name: &[u8]) -> bool
-        ensures { result ≡ call_passes (known_in self.now.story.now.view.sections self.now.story.now.file.now) name.now }
-    {
-        self.is_function(name) || self.is_external(name) || is_builtin_function(name)
-    }
-
     // Rule 3: a flow called that is no function.
-    #[tactic(auto, unfolding(rules::specs::Rules::broken, crate::specs::Scopes::here_in))]
-    pub fn is_flow_called(&self) -> bool
-        ensures { (w : What) → ThingIs self.now.story.now.file.now self.now.at.thing w → result ≡ broken_at self.now.story.now.view.sections self.now.story.now.file.now self.now.story.now.kept.now self.now.at Rule.FlowCalled w }
+    pub fn is_flow_called(&self, known: &Known<'_>) -> bool
+        ensures { (h : rules.Here) (before : List What) (w : What) → ThingIs known.now.file.now self.now w → result ≡ broken (known_in known.now.sections known.now.file.now) h before Rule.FlowCalled w }
     {
-        if self.at.thing.is(Sort::Call) {
-            let name = self.name();
-            return !self.call_passes(name) && self.is_flow(name);
+        if self.is(Sort::Call) {
+            let name = name_at(known.file, self.name);
+            return !call_passes(known, name) && known.is_flow(name);
         }
         false
     }
 
     // Rule 8: a target that is a parameter without divert mark.
-    #[tactic(auto, unfolding(rules::specs::Rules::broken, crate::specs::Scopes::here_in))]
-    pub fn is_parameter_unmarked(&self) -> bool
-        ensures { (w : What) → ThingIs self.now.story.now.file.now self.now.at.thing w → result ≡ broken_at self.now.story.now.view.sections self.now.story.now.file.now self.now.story.now.kept.now self.now.at Rule.ParameterUnmarked w }
+    pub fn is_parameter_unmarked(&self, file: &[u8], scope: Scope) -> bool
+        requires { (scope.params ≤ length file.now) × (scope.marks ≤ length file.now) }
+        ensures { (k : rules.Known) (kept : List ℕ) (before : List What) (w : What) → ThingIs file.now self.now w → result ≡ broken k (here_in file.now kept scope) before Rule.ParameterUnmarked w }
     {
-        if self.at.thing.has_target() {
-            let target = self.name();
-            return self.is_parameter(target) && !self.is_marked(target);
+        if self.has_target() {
+            let target = name_at(file, self.name);
+            return is_counted(file, scope.params, target) && !is_counted(file, scope.marks, target);
         }
         false
     }
 
     // Rule 9: an argument that is directly a DivertTarget of a divert parameter.
-    #[tactic(auto, unfolding(rules::specs::Rules::broken, crate::specs::Scopes::here_in))]
-    pub fn is_parameter_already_marked(&self) -> bool
-        ensures { (w : What) → ThingIs self.now.story.now.file.now self.now.at.thing w → result ≡ broken_at self.now.story.now.view.sections self.now.story.now.file.now self.now.story.now.kept.now self.now.at Rule.ParameterAlreadyMarked w }
+    pub fn is_parameter_already_marked(&self, file: &[u8], scope: Scope) -> bool
+        requires { scope.marks ≤ length file.now }
+        ensures { (k : rules.Known) (kept : List ℕ) (before : List What) (w : What) → ThingIs file.now self.now w → result ≡ broken k (here_in file.now kept scope) before Rule.ParameterAlreadyMarked w }
     {
-        self.at.thing.is(Sort::Argument) && self.is_marked(self.name())
+        self.is(Sort::Argument) && is_counted(file, scope.marks, name_at(file, self.name))
     }
 }

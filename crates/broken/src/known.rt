@@ -1,13 +1,13 @@
-// Names as the rules ask for them: of the whole story its functions, flows, globals, externals and targets; of the flow or the stitch at hand its
-// parameters.
+// Names as the rules ask for them: those that a count byte counts, the words that may be called, and the targets of the whole story.
 ghost use Rattle.std.specs.Prelude.{◌≡◌, ◌≤◌, length};
-ghost use Rattle.names.specs.Counted as counted;
-ghost use Rattle.broken.specs.Scopes.{known_in, counted_at};
+ghost use Rattle.rules.specs.Rules.{call_passes};
+ghost use Rattle.broken.specs.Scopes.{known_in, counted_at, TargetsReady};
 
-use crate::asked::Asked;
+use crate::StoryView;
 use enumerator::entries::has_target;
-use names::{is_reserved, name_at};
+use names::{is_builtin_function, is_reserved};
 use searches::counted_has_name;
+use sets::known::Known;
 
 // The name is one of those that the count byte at the place counts.
 pub fn is_counted(file: &[u8], at: usize, name: &[u8]) -> bool
@@ -17,78 +17,27 @@ pub fn is_counted(file: &[u8], at: usize, name: &[u8]) -> bool
     counted_has_name(&file[at..], name)
 }
 
-impl<'a> Asked<'_, 'a> {
-    // The thing's name.
-    pub fn name(&self) -> &'a [u8]
-        ensures { result.now ≡ counted.name_at self.now.story.now.file.now self.now.at.thing.name }
-    {
-        name_at(self.story.file, self.at.thing.name)
-    }
+// A call name passes if it is a function's, an external's or one of the 21 words.
+#[tactic(auto, using(crate::proofs::Answered::names_asked))]
+pub fn call_passes(known: &Known<'_>, name: &[u8]) -> bool
+    ensures { result ≡ call_passes (known_in known.now.sections known.now.file.now) name.now }
+{
+    known.is_function(name) || known.is_external(name) || is_builtin_function(name)
+}
 
-    // The name is a function's.
-    #[tactic(auto, using(crate::proofs::Answered::function_asked))]
-    pub fn is_function(&self, name: &[u8]) -> bool
-        ensures { result ≡ (known_in self.now.story.now.view.sections self.now.story.now.file.now).function name.now }
-    {
-        let v = self.story.view;
-        sets::known::is_function(self.story.file, v.sections, self.story.names, v.names, name)
+// The target is valid, or some spelling ends in "." and the target: by the set, or by going through the entries where one is not in it.
+pub fn is_target(file: &[u8], kept: &[u32], targets: &[u64], v: StoryView, target: &[u8]) -> bool
+    requires { TargetsReady file.now v kept.now targets.now }
+    ensures { result ≡ (known_in v.sections file.now).target target.now }
+{
+    if is_reserved(target) {
+        return true;
     }
-
-    // The name is a flow's.
-    #[tactic(auto, using(crate::proofs::Answered::flow_asked))]
-    pub fn is_flow(&self, name: &[u8]) -> bool
-        ensures { result ≡ (known_in self.now.story.now.view.sections self.now.story.now.file.now).flow name.now }
-    {
-        let v = self.story.view;
-        sets::known::is_flow(self.story.file, v.sections, self.story.names, v.names, name)
+    if targets::has(file, targets, target) {
+        return true;
     }
-
-    // The name is a global's.
-    #[tactic(auto, using(crate::proofs::Answered::global_asked))]
-    pub fn is_global(&self, name: &[u8]) -> bool
-        ensures { result ≡ (known_in self.now.story.now.view.sections self.now.story.now.file.now).global name.now }
-    {
-        let v = self.story.view;
-        sets::known::is_global(self.story.file, v.sections, self.story.names, v.names, name)
+    if v.left {
+        return has_target(file, v.sections, kept, target);
     }
-
-    // The name is an external's.
-    #[tactic(auto, using(crate::proofs::Answered::external_asked))]
-    pub fn is_external(&self, name: &[u8]) -> bool
-        ensures { result ≡ (known_in self.now.story.now.view.sections self.now.story.now.file.now).external name.now }
-    {
-        let v = self.story.view;
-        sets::known::is_external(self.story.file, v.sections, self.story.names, v.names, name)
-    }
-
-    // The target is valid, or some spelling ends in "." and the target: by the set, or by going through the entries where one is not in it.
-    pub fn is_target(&self, target: &[u8]) -> bool
-        ensures { result ≡ (known_in self.now.story.now.view.sections self.now.story.now.file.now).target target.now }
-    {
-        let v = self.story.view;
-        if is_reserved(target) {
-            return true;
-        }
-        if targets::has(self.story.file, self.story.targets, target) {
-            return true;
-        }
-        if v.left {
-            return has_target(self.story.file, v.sections, self.story.kept, target);
-        }
-        false
-    }
-
-    // The name is a parameter of the flow or the stitch.
-    pub fn is_parameter(&self, name: &[u8]) -> bool
-        ensures { result ≡ counted_at self.now.story.now.file.now self.now.at.scope.params name.now }
-    {
-        is_counted(self.story.file, self.at.scope.params, name)
-    }
-
-    // The name is a divert parameter of the flow or the stitch.
-    pub fn is_marked(&self, name: &[u8]) -> bool
-        ensures { result ≡ counted_at self.now.story.now.file.now self.now.at.scope.marks name.now }
-    {
-        is_counted(self.story.file, self.at.scope.marks, name)
-    }
+    false
 }

@@ -1,119 +1,125 @@
 // Names, labels, gathers, choices and functions: rules 4 to 7 and 10 to 14 (structure.rs).
-ghost use Rattle.std.specs.Prelude.{◌≡◌};
-ghost use Rattle.records.specs.Items.{What};
-ghost use Rattle.rules.specs.declared.Rule.TheVariants as Rule;
-ghost use Rattle.broken.specs.Things.{ThingIs};
-ghost use Rattle.broken.specs.Scopes.{broken_at};
+#![tactic(auto, using(crate::proofs::Answered::names_asked), unfolding(rules::specs::Rules::broken, crate::specs::Scopes::here_in))]
 
-use crate::asked::Asked;
+ghost use Rattle.std.specs.Prelude.{◌≡◌, ◌≤◌, List, ℕ, length, take};
+ghost use Rattle.records.specs.Items.{What};
+ghost use Rattle.story.specs.Story.{whats};
+ghost use Rattle.items.specs.Bodies.{items_at};
+ghost use Rattle.rules.specs.declared.Rule.TheVariants as Rule;
+ghost use Rattle.rules.specs.Rules as rules;
+ghost use Rattle.rules.specs.Rules.{broken};
+ghost use Rattle.broken.specs.Things.{ThingIs};
+ghost use Rattle.broken.specs.Scopes.{known_in, here_in, body_run, KnotSet, BodySet};
+
+use crate::asked::Here;
+use crate::known::is_counted;
+use crate::{Scope, Thing};
 use items::named::Sought;
-use names::is_end_or_done;
+use names::{is_end_or_done, name_at};
 use records::sorts::Sort;
 use sets::Class;
+use sets::known::Known;
 use sets::members::has_among;
 
-impl Asked<'_, '_> {
+impl Thing {
     // Rule 4: a temp or a parameter with a function's name.
-    #[tactic(auto, unfolding(rules::specs::Rules::broken, crate::specs::Scopes::here_in))]
-    pub fn is_name_of_function(&self) -> bool
-        ensures { (w : What) → ThingIs self.now.story.now.file.now self.now.at.thing w → result ≡ broken_at self.now.story.now.view.sections self.now.story.now.file.now self.now.story.now.kept.now self.now.at Rule.NameIsFunction w }
+    pub fn is_name_of_function(&self, known: &Known<'_>) -> bool
+        ensures { (h : rules.Here) (before : List What) (w : What) → ThingIs known.now.file.now self.now w → result ≡ broken (known_in known.now.sections known.now.file.now) h before Rule.NameIsFunction w }
     {
-        let t = self.at.thing;
-        (t.is(Sort::Temp) || t.is(Sort::Parameter)) && self.is_function(self.name())
+        (self.is(Sort::Temp) || self.is(Sort::Parameter))
+            && known.is_function(name_at(known.file, self.name))
     }
 
     // Rule 5: a parameter or a stitch with a global's name.
-    #[tactic(auto, unfolding(rules::specs::Rules::broken, crate::specs::Scopes::here_in))]
-    pub fn is_name_of_global(&self) -> bool
-        ensures { (w : What) → ThingIs self.now.story.now.file.now self.now.at.thing w → result ≡ broken_at self.now.story.now.view.sections self.now.story.now.file.now self.now.story.now.kept.now self.now.at Rule.NameIsGlobal w }
+    pub fn is_name_of_global(&self, known: &Known<'_>) -> bool
+        ensures { (h : rules.Here) (before : List What) (w : What) → ThingIs known.now.file.now self.now w → result ≡ broken (known_in known.now.sections known.now.file.now) h before Rule.NameIsGlobal w }
     {
-        let t = self.at.thing;
-        (t.is(Sort::Parameter) || t.is(Sort::StitchName)) && self.is_global(self.name())
+        (self.is(Sort::Parameter) || self.is(Sort::StitchName))
+            && known.is_global(name_at(known.file, self.name))
     }
 
     // Rule 6: a temp with a parameter's name.
-    #[tactic(auto, unfolding(rules::specs::Rules::broken, crate::specs::Scopes::here_in))]
-    pub fn is_temp_parameter(&self) -> bool
-        ensures { (w : What) → ThingIs self.now.story.now.file.now self.now.at.thing w → result ≡ broken_at self.now.story.now.view.sections self.now.story.now.file.now self.now.story.now.kept.now self.now.at Rule.TempIsParameter w }
+    pub fn is_temp_parameter(&self, file: &[u8], scope: Scope) -> bool
+        requires { scope.params ≤ length file.now }
+        ensures { (k : rules.Known) (kept : List ℕ) (before : List What) (w : What) → ThingIs file.now self.now w → result ≡ broken k (here_in file.now kept scope) before Rule.TempIsParameter w }
     {
-        self.at.thing.is(Sort::Temp) && self.is_parameter(self.name())
-    }
-
-    // Rule 7: a temp with a label's name.
-    #[tactic(auto, using(crate::proofs::Among::labels_among), unfolding(rules::specs::Rules::broken, crate::specs::Scopes::here_in, story::specs::Flows::part))]
-    pub fn is_temp_label(&self) -> bool
-        ensures { (w : What) → ThingIs self.now.story.now.file.now self.now.at.thing w → result ≡ broken_at self.now.story.now.view.sections self.now.story.now.file.now self.now.story.now.kept.now self.now.at Rule.TempIsLabel w }
-    {
-        if self.at.thing.is(Sort::Temp) {
-            let first = self.at.scope.knot;
-            let end = self.at.scope.end;
-            let items = &self.story.kept[first..end];
-            return has_among(
-                Sought::Label,
-                self.story.file,
-                items,
-                items.len(),
-                self.at.rests.labels,
-                Class::Label,
-                self.knot,
-                self.name(),
-            );
-        }
-        false
-    }
-
-    // Rule 10: a gather whose label another had earlier in the body.
-    #[tactic(auto, unfolding(rules::specs::Rules::broken, crate::specs::Scopes::here_in, story::specs::Flows::part))]
-    pub fn is_gather_repeated(&self) -> bool
-        ensures { (w : What) → ThingIs self.now.story.now.file.now self.now.at.thing w → result ≡ broken_at self.now.story.now.view.sections self.now.story.now.file.now self.now.story.now.kept.now self.now.at Rule.GatherRepeated w }
-    {
-        if self.at.thing.is(Sort::Gather) {
-            let first = self.at.scope.first;
-            let last = self.at.scope.last;
-            return has_among(
-                Sought::Gather,
-                self.story.file,
-                &self.story.kept[first..last],
-                self.at.number,
-                self.at.rests.gathers,
-                Class::Gather,
-                self.body,
-                self.name(),
-            );
-        }
-        false
+        self.is(Sort::Temp) && is_counted(file, scope.params, name_at(file, self.name))
     }
 
     // Rule 11: a choice directly in a branch that does not leave.
-    #[tactic(auto, unfolding(rules::specs::Rules::broken, crate::specs::Scopes::here_in))]
     pub fn is_choice_undiverted(&self) -> bool
-        ensures { (w : What) → ThingIs self.now.story.now.file.now self.now.at.thing w → result ≡ broken_at self.now.story.now.view.sections self.now.story.now.file.now self.now.story.now.kept.now self.now.at Rule.ChoiceUndiverted w }
+        ensures { (file : List ℕ) (k : rules.Known) (h : rules.Here) (before : List What) (w : What) → ThingIs file self.now w → result ≡ broken k h before Rule.ChoiceUndiverted w }
     {
-        let t = self.at.thing;
-        t.is(Sort::Choice) && t.branch && !t.leaves
+        self.is(Sort::Choice) && self.branch && !self.leaves
     }
 
     // Rule 12: a function with stitches.
-    #[tactic(auto, unfolding(rules::specs::Rules::broken, crate::specs::Scopes::here_in))]
-    pub fn is_function_with_stitches(&self) -> bool
-        ensures { (w : What) → ThingIs self.now.story.now.file.now self.now.at.thing w → result ≡ broken_at self.now.story.now.view.sections self.now.story.now.file.now self.now.story.now.kept.now self.now.at Rule.FunctionWithStitches w }
+    pub fn is_function_with_stitches(&self, scope: Scope) -> bool
+        ensures { (file kept : List ℕ) (k : rules.Known) (before : List What) (w : What) → ThingIs file self.now w → result ≡ broken k (here_in file kept scope) before Rule.FunctionWithStitches w }
     {
-        self.at.thing.is(Sort::FlowStart) && self.at.scope.stitched
+        self.is(Sort::FlowStart) && scope.stitched
     }
 
     // Rule 13: a function with a choice.
-    #[tactic(auto, unfolding(rules::specs::Rules::broken, crate::specs::Scopes::here_in))]
     pub fn is_function_with_choice(&self) -> bool
-        ensures { (w : What) → ThingIs self.now.story.now.file.now self.now.at.thing w → result ≡ broken_at self.now.story.now.view.sections self.now.story.now.file.now self.now.story.now.kept.now self.now.at Rule.FunctionWithChoice w }
+        ensures { (file : List ℕ) (k : rules.Known) (h : rules.Here) (before : List What) (w : What) → ThingIs file self.now w → result ≡ broken k h before Rule.FunctionWithChoice w }
     {
-        self.at.thing.is(Sort::Choice)
+        self.is(Sort::Choice)
     }
 
     // Rule 14: a function with a Divert other than END or DONE.
-    #[tactic(auto, unfolding(rules::specs::Rules::broken, crate::specs::Scopes::here_in))]
-    pub fn is_function_with_divert(&self) -> bool
-        ensures { (w : What) → ThingIs self.now.story.now.file.now self.now.at.thing w → result ≡ broken_at self.now.story.now.view.sections self.now.story.now.file.now self.now.story.now.kept.now self.now.at Rule.FunctionWithDivert w }
+    pub fn is_function_with_divert(&self, file: &[u8]) -> bool
+        ensures { (k : rules.Known) (h : rules.Here) (before : List What) (w : What) → ThingIs file.now self.now w → result ≡ broken k h before Rule.FunctionWithDivert w }
     {
-        self.at.thing.is(Sort::Divert) && !is_end_or_done(self.name())
+        self.is(Sort::Divert) && !is_end_or_done(name_at(file, self.name))
+    }
+}
+
+impl Here<'_> {
+    // Rule 7: a temp with a label's name.
+    #[tactic(auto, using(crate::proofs::Among::labels_among), unfolding(rules::specs::Rules::broken, crate::specs::Scopes::here_in, story::specs::Flows::part))]
+    pub fn is_temp_label(&self, knot: &[u32], t: Thing) -> bool
+        requires { KnotSet self.now.file.now self.now.kept.now self.now.scope self.now.rests knot.now }
+        ensures { (k : rules.Known) (before : List What) (w : What) → ThingIs self.now.file.now t w → result ≡ broken k (here_in self.now.file.now self.now.kept.now self.now.scope) before Rule.TempIsLabel w }
+    {
+        if t.is(Sort::Temp) {
+            let first = self.scope.knot;
+            let end = self.scope.end;
+            let items = &self.kept[first..end];
+            return has_among(
+                Sought::Label,
+                self.file,
+                items,
+                items.len(),
+                self.rests.labels,
+                Class::Label,
+                knot,
+                name_at(self.file, t.name),
+            );
+        }
+        false
+    }
+
+    // Rule 10: a gather whose label another had earlier in the body, where so many items stand before it.
+    #[tactic(auto, unfolding(rules::specs::Rules::broken, crate::specs::Scopes::here_in, story::specs::Flows::part))]
+    pub fn is_gather_repeated(&self, body: &[u32], number: usize, t: Thing) -> bool
+        requires { BodySet self.now.file.now self.now.kept.now self.now.scope self.now.rests number body.now }
+        ensures { (k : rules.Known) (h : rules.Here) (w : What) → ThingIs self.now.file.now t w → result ≡ broken k h (take number (whats (items_at self.now.file.now (body_run self.now.kept.now self.now.scope)))) Rule.GatherRepeated w }
+    {
+        if t.is(Sort::Gather) {
+            let first = self.scope.first;
+            let last = self.scope.last;
+            return has_among(
+                Sought::Gather,
+                self.file,
+                &self.kept[first..last],
+                number,
+                self.rests.gathers,
+                Class::Gather,
+                body,
+                name_at(self.file, t.name),
+            );
+        }
+        false
     }
 }

@@ -1,16 +1,20 @@
 // Variables of a stitch: rule 15 (variables.rs).
-ghost use Rattle.std.specs.Prelude.{◌≡◌, ◌≤◌, length};
+ghost use Rattle.std.specs.Prelude.{◌≡◌, ◌≤◌, List, length};
 ghost use Rattle.records.specs.Items.{What};
 ghost use Rattle.story.specs.Flows.{part};
 ghost use Rattle.items.specs.declared.named.Sought.TheVariants as sought;
 ghost use Rattle.sets.specs.Members.{Members};
 ghost use Rattle.rules.specs.declared.Rule.TheVariants as Rule;
+ghost use Rattle.rules.specs.Rules as rules;
+ghost use Rattle.rules.specs.Rules.{broken};
 ghost use Rattle.broken.specs.Things.{ThingIs};
-ghost use Rattle.broken.specs.Scopes.{declared_in, broken_at};
+ghost use Rattle.broken.specs.Scopes.{declared_in, here_in, KnotSet, BodySet};
 
-use crate::asked::Asked;
+use crate::Thing;
+use crate::asked::Here;
 use crate::known::is_counted;
 use items::named::Sought;
+use names::name_at;
 use records::sorts::Sort;
 use sets::Class;
 use sets::members::has_among;
@@ -47,35 +51,23 @@ fn is_declared(
     )
 }
 
-impl Asked<'_, '_> {
+impl Here<'_> {
     // Rule 15: a variable that the knot declares and the stitch does not.
     #[tactic(auto, unfolding(rules::specs::Rules::broken, crate::specs::Scopes::here_in))]
-    pub fn is_variable_forbidden(&self) -> bool
-        ensures { (w : What) → ThingIs self.now.story.now.file.now self.now.at.thing w → result ≡ broken_at self.now.story.now.view.sections self.now.story.now.file.now self.now.story.now.kept.now self.now.at Rule.VariableForbidden w }
+    pub fn is_variable_forbidden(&self, knot: &[u32], body: &[u32], number: usize, t: Thing) -> bool
+        requires knot_set { KnotSet self.now.file.now self.now.kept.now self.now.scope self.now.rests knot.now }
+        requires body_set { BodySet self.now.file.now self.now.kept.now self.now.scope self.now.rests number body.now }
+        ensures { (k : rules.Known) (before : List What) (w : What) → ThingIs self.now.file.now t w → result ≡ broken k (here_in self.now.file.now self.now.kept.now self.now.scope) before Rule.VariableForbidden w }
     {
-        if self.at.thing.is(Sort::Variable) {
-            let s = self.at.scope;
-            let n = self.at.rests;
-            let name = self.name();
+        if t.is(Sort::Variable) {
+            let s = self.scope;
+            let n = self.rests;
+            let name = name_at(self.file, t.name);
             if is_declared(
-                self.story.file,
-                self.story.kept,
-                self.knot,
-                s.outer,
-                s.knot,
-                s.own,
-                n.temps,
-                name,
+                self.file, self.kept, knot, s.outer, s.knot, s.own, n.temps, name,
             ) {
                 return !is_declared(
-                    self.story.file,
-                    self.story.kept,
-                    self.body,
-                    s.params,
-                    s.first,
-                    s.last,
-                    n.own,
-                    name,
+                    self.file, self.kept, body, s.params, s.first, s.last, n.own, name,
                 );
             }
         }

@@ -86,38 +86,54 @@ pub fn put_known(file: &[u8], c: Sections, set: &mut [u32]) -> Names
     }
 }
 
-// The name is a global's: by the set, or by going through those that are not in it.
-pub fn is_global(file: &[u8], c: Sections, set: &[u32], n: Names, name: &[u8]) -> bool
-    requires in_order { InOrder c file.now }
-    requires names_in { NamesIn file.now c set.now n }
-    ensures { result ≡ one_of name.now (words (story_in c file.now).globals) }
-{
-    has(file, set, Class::Global, name) || section_has_name(&file[n.globals..c.externals], name)
+// The names of a story as its set has them: the file, its sections in order, the filled set, and the names that are not in it.
+#[derive(Clone, Copy)]
+pub struct Known<'a> {
+    pub file: &'a [u8],
+    pub sections: Sections,
+    pub set: &'a [u32],
+    pub rest: Names,
+    pub ghost in_order: { InOrder sections file.now },
+    pub ghost names_in: { NamesIn file.now sections set.now rest },
 }
 
-// The name is an external's.
-pub fn is_external(file: &[u8], c: Sections, set: &[u32], n: Names, name: &[u8]) -> bool
-    requires in_order { InOrder c file.now }
-    requires names_in { NamesIn file.now c set.now n }
-    ensures { result ≡ one_of name.now (words (story_in c file.now).externals) }
-{
-    has(file, set, Class::External, name) || section_has_name(&file[n.externals..c.root], name)
-}
+impl Known<'_> {
+    // The name is a global's: by the set, or by going through those that are not in it.
+    pub fn is_global(&self, name: &[u8]) -> bool
+        ensures { result ≡ one_of name.now (words (story_in self.now.sections self.now.file.now).globals) }
+    {
+        let from = self.rest.globals;
+        let to = self.sections.externals;
+        has(self.file, self.set, Class::Global, name)
+            || section_has_name(&self.file[from..to], name)
+    }
 
-// The name is a flow's.
-pub fn is_flow(file: &[u8], c: Sections, set: &[u32], n: Names, name: &[u8]) -> bool
-    requires in_order { InOrder c file.now }
-    requires names_in { NamesIn file.now c set.now n }
-    ensures { result ≡ any (is_flow name.now) (story_in c file.now).flows }
-{
-    has(file, set, Class::Flow, name) || is_flow_name(&file[n.flows..c.end], name)
-}
+    // The name is an external's.
+    pub fn is_external(&self, name: &[u8]) -> bool
+        ensures { result ≡ one_of name.now (words (story_in self.now.sections self.now.file.now).externals) }
+    {
+        let from = self.rest.externals;
+        let to = self.sections.root;
+        has(self.file, self.set, Class::External, name)
+            || section_has_name(&self.file[from..to], name)
+    }
 
-// The name is a function's.
-pub fn is_function(file: &[u8], c: Sections, set: &[u32], n: Names, name: &[u8]) -> bool
-    requires in_order { InOrder c file.now }
-    requires names_in { NamesIn file.now c set.now n }
-    ensures { result ≡ any (is_function name.now) (story_in c file.now).flows }
-{
-    has(file, set, Class::Function, name) || is_function_name(&file[n.flows..c.end], name)
+    // The name is a flow's.
+    pub fn is_flow(&self, name: &[u8]) -> bool
+        ensures { result ≡ any (is_flow name.now) (story_in self.now.sections self.now.file.now).flows }
+    {
+        let from = self.rest.flows;
+        let to = self.sections.end;
+        has(self.file, self.set, Class::Flow, name) || is_flow_name(&self.file[from..to], name)
+    }
+
+    // The name is a function's.
+    pub fn is_function(&self, name: &[u8]) -> bool
+        ensures { result ≡ any (is_function name.now) (story_in self.now.sections self.now.file.now).flows }
+    {
+        let from = self.rest.flows;
+        let to = self.sections.end;
+        has(self.file, self.set, Class::Function, name)
+            || is_function_name(&self.file[from..to], name)
+    }
 }

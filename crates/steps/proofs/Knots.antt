@@ -32,7 +32,7 @@ use Rattle.steps.specs.declared.brackets.Along.{Along}
 use Rattle.steps.specs.declared.brackets.Along.TheVariants as along
 use Rattle.steps.specs.Brackets.{steps_along}
 use Rattle.steps.specs.Courses.{CourseReady}
-use Rattle.steps.specs.Stories.{knot_after, course_of, first_heard, KnotReady, FlowTurnReady, StoryTurnReady}
+use Rattle.steps.specs.Stories.{course_of, first_heard, KnotReady, FlowTurnReady, StoryTurnReady}
 use Rattle.steps.proofs.Coursing.{course-clear}
 use Rattle.steps.proofs.Runs.{Through, through-start, through-next}
 use Rattle.steps.proofs.Order.{flow-heard}
@@ -70,16 +70,6 @@ module _ {file kept set : List ℕ} {k : Knot} (ready : KnotReady file kept set 
   knot-course a tally = record {
     scope_ready = knot-scope-ready;
     knot_set = ready.knot_set;
-  }
-
-  -- with what was heard so far it is as ready
-  pub knot-on : (tally : Tally) → KnotReady file kept set (knot_after k tally)
-  knot-on tally = record {
-    flow_ready = ready.flow_ready;
-    scope_is = ready.scope_is;
-    knot_set = ready.knot_set;
-    own = ready.own;
-    gathers = ready.gathers;
   }
 
   -- its parameters stand inside the file

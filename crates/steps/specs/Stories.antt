@@ -1,7 +1,9 @@
 -- Inner contract. What holds while the steps of a stitch, a flow and a story run. Assumes nothing.
 use Rattle.story.specs.declared.Sections.{Sections}
 use Rattle.std.specs.Prelude.{ℕ, ◌≤◌, ◌≡◌, false, List, [], ◌∷◌}
-use Rattle.items.specs.Bodies.{kept_story, kept_flow}
+use Rattle.std.specs.Coded.{×_prop, Π_prop, →_prop, Unit-prop, le_prop}
+use Rattle.names.specs.Words.{Sorted}
+use Rattle.items.specs.Bodies.{kept_story, kept_flow, Rising}
 use Rattle.items.specs.Runs.{number_before}
 use Rattle.rules.specs.Rules.{knot}
 use Rattle.rules.specs.Steps.{s5, s6, over, param_items, purity_items}
@@ -17,10 +19,6 @@ use Rattle.steps.specs.declared.context.FlowTurn.{FlowTurn}
 use Rattle.steps.specs.declared.context.StoryTurn.{StoryTurn}
 use Rattle.steps.specs.Heard.{Heard, hear_runs}
 use Rattle.steps.specs.Scopes.{knot_scope, FlowReady, StitchReady}
-
--- the knot, with what was heard so far
-abbrev pub knot_after : Knot → Tally → Knot
-knot_after k tally = record { flow = k.flow; scope = k.scope; rests = k.rests; tally = tally }
 
 -- steps along the own list of the flow, after what was heard
 abbrev pub course_of : Knot → Along → Tally → Course
@@ -45,9 +43,8 @@ pub record KnotReady (file kept set : List ℕ) (k : Knot) : Type 0 where
   pub own : k.rests.own ≡ 0
   pub gathers : k.rests.gathers ≡ 0
 
--- and those of a stitch of it
-pub record StitchTurnReady (file kept set : List ℕ) (t : StitchTurn) : Type 0 where
-  pub knot_ready : KnotReady file kept set t.knot
+-- the steps of a stitch of a knot that is ready can run
+pub record StitchTurnReady (file kept : List ℕ) (t : StitchTurn) : Type 0 where
   pub stitch_ready : StitchReady file t.stitch
   pub before : t.start ≤ number_before t.stitch.from kept
 
@@ -59,3 +56,12 @@ pub record FlowTurnReady (file kept : List ℕ) (t : FlowTurn) : Type 0 where
 -- the steps of the flows can run
 pub record StoryTurnReady (sections : Sections) (file kept : List ℕ) (t : StoryTurn) : Type 0 where
   pub before : t.start ≤ number_before sections.flows kept
+
+-- a list is sorted in one way at most
+sorted_prop : {A : Type 0} {R : A → A → Type 0} → ((x y : A) → IsProp (R x y)) → (xs : List A) → IsProp (Sorted R xs)
+sorted_prop p [] = Unit-prop
+sorted_prop p (x ∷ xs) = ×_prop (Π_prop (λ y. →_prop (p x y))) (sorted_prop p xs)
+
+-- numbers rise in one way at most, and so a knot is ready in one way at most
+pub rising_prop : (kept : List ℕ) → IsProp (Rising kept)
+rising_prop kept = sorted_prop (λ x y. le_prop) kept

@@ -19,6 +19,7 @@ use crate::{Tally, is_full, pass_runs};
 use broken::asked::Story;
 use broken::{At, Rests, Scope, Thing};
 use records::sorts::Sort;
+use sets::members::NamedItems;
 
 // Steps along a body: where they run, the numbers of the items from which on the names are in no set, which steps, whether the body is a
 // function's own list, and what was heard before.
@@ -29,6 +30,15 @@ pub struct Course {
     pub along: Along,
     pub function: bool,
     pub tally: Tally,
+}
+
+// A body with the steps along it, of a story at hand, and the set of its knot: all that the steps may ask is ready but for the body's set.
+#[derive(Clone, Copy)]
+pub struct Body<'a, 'b> {
+    pub story: &'a Story<'b>,
+    pub knot: &'a [u32],
+    pub course: Course,
+    pub ghost ready: { CourseReady story.now.file.now story.now.kept.now knot.now course },
 }
 
 // A step of the course, with these rests and what was heard before it.
@@ -42,37 +52,6 @@ fn turn_at(c: Course, rests: Rests, step: Step, tally: Tally) -> Turn
         step,
         tally,
     }
-}
-
-// THE STEPS along the body's items, one after the other, until it is full. A step on gathers is the last, so the body's set is filled once.
-pub fn validate_steps(
-    story: &Story<'_>,
-    knot: &[u32],
-    body: &mut [u32],
-    list: &mut [u32],
-    c: Course,
-) -> Tally
-    requires { CourseReady story.now.file.now story.now.kept.now knot.now c }
-    ensures { (s : rules.Scope) → ScopeIs story.now.file.now story.now.kept.now story.now.view.sections c.scope s → heard result list.new ≡ hear_runs (kept_story story.now.view.sections story.now.file.now) (heard c.tally list.old) (over s (items_at story.now.file.now (body_run story.now.kept.now c.scope)) (steps_along c.along)) }
-{
-    let rests = put_body(
-        story.file,
-        story.kept,
-        c.scope,
-        c.rests,
-        c.along.is_in_stitch(),
-        body,
-    );
-    let mut tally = c.tally;
-    let steps = c.along.steps();
-    for &step in steps {
-        if is_full(tally) {
-            return tally;
-        }
-        let turn = turn_at(c, rests, step, tally);
-        tally = validate_nodes(story, knot, body, list, turn);
-    }
-    tally
 }
 
 // Of so many slots, those that so many items need.
@@ -104,44 +83,66 @@ fn look_at(c: Course, rests: Rests) -> At
     }
 }
 
-// Fills the body's set, and looks once at its items: no rule of the look is broken at any of them.
-fn is_clear_in(story: &Story<'_>, knot: &[u32], body: &mut [u32], c: Course) -> bool
-    requires { CourseReady story.now.file.now story.now.kept.now knot.now c }
-    ensures { result ≡ clear_along (known_in story.now.view.sections story.now.file.now) (here_in story.now.file.now story.now.kept.now c.scope) (look_rules (in_stitch c.along) c.function) [] (items_at story.now.file.now (body_run story.now.kept.now c.scope)) }
-{
-    let inner = c.along.is_in_stitch();
-    let rests = put_body(story.file, story.kept, c.scope, c.rests, inner, body);
-    let at = look_at(c, rests);
-    let look = Look {
-        inner,
-        function: c.function,
-    };
-    is_body_clear(look, story, knot, body, at)
-}
-
-// No rule of the look is broken at any item of the body. Only as many slots of the body's set are used as its items need.
-pub fn is_clear(story: &Story<'_>, knot: &[u32], body: &mut [u32], c: Course) -> bool
-    requires { CourseReady story.now.file.now story.now.kept.now knot.now c }
-    ensures { result ≡ clear_along (known_in story.now.view.sections story.now.file.now) (here_in story.now.file.now story.now.kept.now c.scope) (look_rules (in_stitch c.along) c.function) [] (items_at story.now.file.now (body_run story.now.kept.now c.scope)) }
-{
-    let scope = c.scope;
-    let slots = room(body.len(), scope.last - scope.first);
-    is_clear_in(story, knot, &mut body[..slots], c)
-}
-
-// THE STEPS along the body's items, those that find nothing by one look.
-pub fn validate_body(
-    story: &Story<'_>,
-    knot: &[u32],
-    body: &mut [u32],
-    list: &mut [u32],
-    c: Course,
-) -> Tally
-    requires { CourseReady story.now.file.now story.now.kept.now knot.now c }
-    ensures { (s : rules.Scope) → ScopeIs story.now.file.now story.now.kept.now story.now.view.sections c.scope s → heard result list.new ≡ hear_runs (kept_story story.now.view.sections story.now.file.now) (heard c.tally list.old) (over s (items_at story.now.file.now (body_run story.now.kept.now c.scope)) (steps_along c.along)) }
-{
-    if is_clear(story, knot, body, c) {
-        return pass_runs(c.tally, c.along.many());
+impl Body<'_, '_> {
+    // THE STEPS along the body's items, one after the other, until it is full. A step on gathers is the last, so the body's set is filled once.
+    pub fn validate_steps(&self, body: &mut [u32], list: &mut [u32]) -> Tally
+        ensures { (s : rules.Scope) → ScopeIs self.now.story.now.file.now self.now.story.now.kept.now self.now.story.now.view.sections self.now.course.scope s → heard result list.new ≡ hear_runs (kept_story self.now.story.now.view.sections self.now.story.now.file.now) (heard self.now.course.tally list.old) (over s (items_at self.now.story.now.file.now (body_run self.now.story.now.kept.now self.now.course.scope)) (steps_along self.now.course.along)) }
+    {
+        let story = self.story;
+        let c = self.course;
+        let kept = NamedItems {
+            file: story.file,
+            items: story.kept,
+        };
+        let rests = put_body(kept, c.scope, c.rests, c.along.is_in_stitch(), body);
+        let mut tally = c.tally;
+        let steps = c.along.steps();
+        for &step in steps {
+            if is_full(tally) {
+                return tally;
+            }
+            let turn = turn_at(c, rests, step, tally);
+            tally = validate_nodes(story, self.knot, body, list, turn);
+        }
+        tally
     }
-    validate_steps(story, knot, body, list, c)
+
+    // Fills the body's set, and looks once at its items: no rule of the look is broken at any of them.
+    fn is_clear_in(&self, body: &mut [u32]) -> bool
+        ensures { result ≡ clear_along (known_in self.now.story.now.view.sections self.now.story.now.file.now) (here_in self.now.story.now.file.now self.now.story.now.kept.now self.now.course.scope) (look_rules (in_stitch self.now.course.along) self.now.course.function) [] (items_at self.now.story.now.file.now (body_run self.now.story.now.kept.now self.now.course.scope)) }
+    {
+        let story = self.story;
+        let c = self.course;
+        let inner = c.along.is_in_stitch();
+        let kept = NamedItems {
+            file: story.file,
+            items: story.kept,
+        };
+        let rests = put_body(kept, c.scope, c.rests, inner, body);
+        let at = look_at(c, rests);
+        let look = Look {
+            inner,
+            function: c.function,
+        };
+        is_body_clear(look, story, self.knot, body, at)
+    }
+
+    // No rule of the look is broken at any item of the body. Only as many slots of the body's set are used as its items need.
+    pub fn is_clear(&self, body: &mut [u32]) -> bool
+        ensures { result ≡ clear_along (known_in self.now.story.now.view.sections self.now.story.now.file.now) (here_in self.now.story.now.file.now self.now.story.now.kept.now self.now.course.scope) (look_rules (in_stitch self.now.course.along) self.now.course.function) [] (items_at self.now.story.now.file.now (body_run self.now.story.now.kept.now self.now.course.scope)) }
+    {
+        let scope = self.course.scope;
+        let slots = room(body.len(), scope.last - scope.first);
+        self.is_clear_in(&mut body[..slots])
+    }
+
+    // THE STEPS along the body's items, those that find nothing by one look.
+    pub fn validate(&self, body: &mut [u32], list: &mut [u32]) -> Tally
+        ensures { (s : rules.Scope) → ScopeIs self.now.story.now.file.now self.now.story.now.kept.now self.now.story.now.view.sections self.now.course.scope s → heard result list.new ≡ hear_runs (kept_story self.now.story.now.view.sections self.now.story.now.file.now) (heard self.now.course.tally list.old) (over s (items_at self.now.story.now.file.now (body_run self.now.story.now.kept.now self.now.course.scope)) (steps_along self.now.course.along)) }
+    {
+        if self.is_clear(body) {
+            return pass_runs(self.course.tally, self.course.along.many());
+        }
+        self.validate_steps(body, list)
+    }
 }

@@ -1,12 +1,13 @@
 // The twenty steps in order (context.rs).
 ghost use Rattle.std.specs.Prelude.{◌≡◌, ◌≤◌};
+ghost use Rattle.std.proofs.Props.{props};
 ghost use Rattle.names.specs.Words.{each};
 ghost use Rattle.items.specs.Bodies.{kept_story, kept_stitch, kept_flow};
 ghost use Rattle.rules.specs.Steps.{stitch_runs, flow_runs, runs};
 ghost use Rattle.steps.specs.Heard.{heard, hear_runs};
-ghost use Rattle.steps.specs.Stories.{knot_after, course_of, root_course, first_heard, KnotReady, StitchTurnReady, FlowTurnReady, StoryTurnReady};
+ghost use Rattle.steps.specs.Stories.{course_of, root_course, first_heard, KnotReady, StitchTurnReady, FlowTurnReady, StoryTurnReady, rising_prop};
 
-use crate::bodies::{Course, is_clear, room, validate_body, validate_steps};
+use crate::bodies::{Body, Course, room};
 use crate::brackets::Along;
 use crate::fillings::put_knot;
 use crate::headings::{
@@ -17,163 +18,156 @@ use crate::{Tally, is_full, pass_runs};
 use broken::asked::Story;
 use broken::{Rests, Scope};
 use searches::views::{FlowView, StitchView, flow_view, stitch_view};
+use sets::members::NamedItems;
 
-// A knot whose steps run: the flow, where its steps run, the numbers of the items from which on the names are in no set, and what
-// was heard before.
+// A knot: the flow, where its steps run, and the numbers of the items from which on the names are in no set.
 #[derive(Clone, Copy)]
 pub struct Knot {
     pub flow: FlowView,
     pub scope: Scope,
     pub rests: Rests,
+}
+
+// A stitch, the number of a kept item before its own, and what was heard before.
+#[derive(Clone, Copy)]
+pub struct StitchTurn {
+    pub stitch: StitchView,
+    pub start: usize,
     pub tally: Tally,
 }
 
-// A stitch of a knot, and the number of a kept item before its own.
+// A knot of a story at hand, with its set filled: its steps can run.
 #[derive(Clone, Copy)]
-pub struct StitchTurn {
+pub struct FilledKnot<'a, 'b> {
+    pub story: &'a Story<'b>,
+    pub set: &'a [u32],
     pub knot: Knot,
-    pub stitch: StitchView,
-    pub start: usize,
+    pub ghost ready: { KnotReady story.now.file.now story.now.kept.now set.now knot } by { Prim.hlevel (props, rising_prop) },
 }
 
-// Steps 12 to 18, of a stitch.
-fn validate_stitch(
-    story: &Story<'_>,
-    knot: &[u32],
-    body: &mut [u32],
-    list: &mut [u32],
-    t: StitchTurn,
-) -> Tally
-    requires { StitchTurnReady story.now.file.now story.now.kept.now knot.now t }
-    ensures { heard result list.new ≡ hear_runs (kept_story story.now.view.sections story.now.file.now) (heard t.knot.tally list.old) (stitch_runs (kept_flow story.now.file.now story.now.kept.now t.knot.flow) (kept_stitch story.now.file.now story.now.kept.now t.stitch)) }
-{
-    let k = t.knot;
-    let rests = k.rests;
-    let tally = k.tally;
-    let scope = stitch_scope(story.kept, k.scope, t.stitch, t.start);
-    let heading = Heading {
-        scope,
-        rests,
-        at: t.stitch.name,
-        function: false,
-        tally,
-    };
-    let first = validate_stitch_name(story, knot, &knot[..0], list, heading);
-    let course = Course {
-        scope,
-        rests,
-        along: Along::Stitch,
-        function: false,
-        tally: first,
-    };
-    validate_body(story, knot, body, list, course)
-}
-
-// The knot, with what was heard so far.
-fn knot_after(k: Knot, tally: Tally) -> Knot
-    ensures { result ≡ knot_after k tally }
-{
-    Knot { tally, ..k }
-}
-
-// Steps 12 to 18, of the stitches of a flow one after the other, until it is full.
-fn validate_stitches(
-    story: &Story<'_>,
-    knot: &[u32],
-    body: &mut [u32],
-    list: &mut [u32],
-    k: Knot,
-) -> Tally
-    requires { KnotReady story.now.file.now story.now.kept.now knot.now k }
-    ensures { heard result list.new ≡ hear_runs (kept_story story.now.view.sections story.now.file.now) (heard k.tally list.old) (each (stitch_runs (kept_flow story.now.file.now story.now.kept.now k.flow)) (kept_flow story.now.file.now story.now.kept.now k.flow).stitches) }
-{
-    let mut tally = k.tally;
-    let mut at = k.flow.stitches;
-    let mut start = k.scope.own;
-    while let Some(w) = stitch_view(story.file, at, k.flow.end) {
-        if is_full(tally) {
-            return tally;
-        }
-        let t = StitchTurn {
-            knot: knot_after(k, tally),
-            stitch: w,
-            start,
+impl FilledKnot<'_, '_> {
+    // Steps 12 to 18, of a stitch of it.
+    fn validate_stitch(&self, body: &mut [u32], list: &mut [u32], t: StitchTurn) -> Tally
+        requires { StitchTurnReady self.now.story.now.file.now self.now.story.now.kept.now t }
+        ensures { heard result list.new ≡ hear_runs (kept_story self.now.story.now.view.sections self.now.story.now.file.now) (heard t.tally list.old) (stitch_runs (kept_flow self.now.story.now.file.now self.now.story.now.kept.now self.now.knot.flow) (kept_stitch self.now.story.now.file.now self.now.story.now.kept.now t.stitch)) }
+    {
+        let story = self.story;
+        let knot = self.set;
+        let rests = self.knot.rests;
+        let scope = stitch_scope(story.kept, self.knot.scope, t.stitch, t.start);
+        let heading = Heading {
+            scope,
+            rests,
+            at: t.stitch.name,
+            function: false,
+            tally: t.tally,
         };
-        tally = validate_stitch(story, knot, body, list, t);
-        at = w.end;
-        start = index_from(story.kept, start, at);
+        let first = validate_stitch_name(story, knot, &knot[..0], list, heading);
+        let course = Course {
+            scope,
+            rests,
+            along: Along::Stitch,
+            function: false,
+            tally: first,
+        };
+        let steps = Body {
+            story,
+            knot,
+            course,
+        };
+        steps.validate(body, list)
     }
-    tally
-}
 
-// Steps 5 and 6, of a flow: nothing is asked of a body's set.
-fn validate_first_steps(
-    story: &Story<'_>,
-    knot: &[u32],
-    body: &mut [u32],
-    list: &mut [u32],
-    k: Knot,
-) -> Tally
-    requires { KnotReady story.now.file.now story.now.kept.now knot.now k }
-    ensures { heard result list.new ≡ first_heard story.now.view.sections story.now.file.now story.now.kept.now k (heard k.tally list.old) }
-{
-    let scope = k.scope;
-    let rests = k.rests;
-    let tally = k.tally;
-    let flow = k.flow;
-    let heading = Heading {
-        scope,
-        rests,
-        at: flow.at,
-        function: flow.function,
-        tally,
-    };
-    let purity = validate_function_purity(story, knot, &mut body[..0], list, heading);
-    let params = Heading {
-        tally: purity,
-        ..heading
-    };
-    validate_flow_parameter_names(story, knot, &knot[..0], list, params)
-}
-
-// Steps along the own list of a flow, after what was heard.
-fn course_of(k: Knot, along: Along, tally: Tally) -> Course
-    ensures { result ≡ course_of k along tally }
-{
-    let scope = k.scope;
-    let rests = k.rests;
-    Course {
-        scope,
-        rests,
-        along,
-        function: k.flow.function,
-        tally,
+    // Steps 12 to 18, of its stitches one after the other, until it is full.
+    fn validate_stitches(&self, body: &mut [u32], list: &mut [u32], before: Tally) -> Tally
+        ensures { heard result list.new ≡ hear_runs (kept_story self.now.story.now.view.sections self.now.story.now.file.now) (heard before list.old) (each (stitch_runs (kept_flow self.now.story.now.file.now self.now.story.now.kept.now self.now.knot.flow)) (kept_flow self.now.story.now.file.now self.now.story.now.kept.now self.now.knot.flow).stitches) }
+    {
+        let story = self.story;
+        let k = self.knot;
+        let mut tally = before;
+        let mut at = k.flow.stitches;
+        let mut start = k.scope.own;
+        while let Some(w) = stitch_view(story.file, at, k.flow.end) {
+            if is_full(tally) {
+                return tally;
+            }
+            let t = StitchTurn {
+                stitch: w,
+                start,
+                tally,
+            };
+            tally = self.validate_stitch(body, list, t);
+            at = w.end;
+            start = index_from(story.kept, start, at);
+        }
+        tally
     }
-}
 
-// Steps 5 to 19, of a flow whose set is filled: where one look finds its own list clear, its steps are passed.
-fn validate_knot(
-    story: &Story<'_>,
-    knot: &[u32],
-    body: &mut [u32],
-    list: &mut [u32],
-    k: Knot,
-) -> Tally
-    requires { KnotReady story.now.file.now story.now.kept.now knot.now k }
-    ensures { heard result list.new ≡ hear_runs (kept_story story.now.view.sections story.now.file.now) (heard k.tally list.old) (flow_runs (kept_flow story.now.file.now story.now.kept.now k.flow)) }
-{
-    let first = validate_first_steps(story, knot, body, list, k);
-    let own = course_of(k, Along::Flow, first);
-    if is_clear(story, knot, body, own) {
-        let passed = knot_after(k, pass_runs(first, Along::Flow.many()));
-        let tally = validate_stitches(story, knot, body, list, passed);
-        return pass_runs(tally, Along::FlowGathers.many());
+    // Steps 5 and 6, of its flow: nothing is asked of a body's set.
+    fn validate_first_steps(&self, body: &mut [u32], list: &mut [u32], tally: Tally) -> Tally
+        ensures { heard result list.new ≡ first_heard self.now.story.now.view.sections self.now.story.now.file.now self.now.story.now.kept.now self.now.knot (heard tally list.old) }
+    {
+        let story = self.story;
+        let knot = self.set;
+        let scope = self.knot.scope;
+        let rests = self.knot.rests;
+        let flow = self.knot.flow;
+        let heading = Heading {
+            scope,
+            rests,
+            at: flow.at,
+            function: flow.function,
+            tally,
+        };
+        let purity = validate_function_purity(story, knot, &mut body[..0], list, heading);
+        let params = Heading {
+            tally: purity,
+            ..heading
+        };
+        validate_flow_parameter_names(story, knot, &knot[..0], list, params)
     }
-    let tally = validate_steps(story, knot, body, list, own);
-    let after = knot_after(k, tally);
-    let tally = validate_stitches(story, knot, body, list, after);
-    let gathers = course_of(k, Along::FlowGathers, tally);
-    validate_steps(story, knot, body, list, gathers)
+
+    // Steps along the own list of its flow, after what was heard.
+    fn course(&self, along: Along, tally: Tally) -> Course
+        ensures { result ≡ course_of self.now.knot along tally }
+    {
+        let scope = self.knot.scope;
+        let rests = self.knot.rests;
+        Course {
+            scope,
+            rests,
+            along,
+            function: self.knot.flow.function,
+            tally,
+        }
+    }
+
+    // Steps 5 to 19, of its flow: where one look finds its own list clear, its steps are passed.
+    fn validate(&self, body: &mut [u32], list: &mut [u32], before: Tally) -> Tally
+        ensures { heard result list.new ≡ hear_runs (kept_story self.now.story.now.view.sections self.now.story.now.file.now) (heard before list.old) (flow_runs (kept_flow self.now.story.now.file.now self.now.story.now.kept.now self.now.knot.flow)) }
+    {
+        let story = self.story;
+        let knot = self.set;
+        let first = self.validate_first_steps(body, list, before);
+        let own = Body {
+            story,
+            knot,
+            course: self.course(Along::Flow, first),
+        };
+        if own.is_clear(body) {
+            let passed = pass_runs(first, Along::Flow.many());
+            let tally = self.validate_stitches(body, list, passed);
+            return pass_runs(tally, Along::FlowGathers.many());
+        }
+        let after = own.validate_steps(body, list);
+        let tally = self.validate_stitches(body, list, after);
+        let gathers = Body {
+            story,
+            knot,
+            course: self.course(Along::FlowGathers, tally),
+        };
+        gathers.validate_steps(body, list)
+    }
 }
 
 // A flow, the number of a kept item before its own, and what was heard before.
@@ -196,16 +190,18 @@ fn validate_flow(
     ensures { heard result list.new ≡ hear_runs (kept_story story.now.view.sections story.now.file.now) (heard t.tally list.old) (flow_runs (kept_flow story.now.file.now story.now.kept.now t.flow)) }
 {
     let flow = t.flow;
-    let tally = t.tally;
     let scope = knot_scope(story.file, story.kept, flow, t.start);
-    let rests = put_knot(story.file, story.kept, scope, knot);
-    let k = Knot {
-        flow,
-        scope,
-        rests,
-        tally,
+    let kept = NamedItems {
+        file: story.file,
+        items: story.kept,
     };
-    validate_knot(story, knot, body, list, k)
+    let rests = put_knot(kept, scope, knot);
+    let filled = FilledKnot {
+        story,
+        set: knot,
+        knot: Knot { flow, scope, rests },
+    };
+    filled.validate(body, list, t.tally)
 }
 
 // The number of a kept item before those of the flows, and what was heard before.
@@ -269,9 +265,17 @@ pub fn validate_story(
 {
     let tally = t.tally;
     let scope = root_scope(story.file, story.view.sections, story.kept);
-    let rests = put_knot(story.file, story.kept, scope, knot);
-    let root = root_course(scope, rests, Along::Root, tally);
-    let first = validate_body(story, knot, body, list, root);
+    let kept = NamedItems {
+        file: story.file,
+        items: story.kept,
+    };
+    let rests = put_knot(kept, scope, knot);
+    let root = Body {
+        story,
+        knot,
+        course: root_course(scope, rests, Along::Root, tally),
+    };
+    let first = root.validate(body, list);
     let turn = StoryTurn {
         start: scope.last,
         tally: first,
@@ -283,6 +287,10 @@ pub fn validate_story(
         own: 0,
         gathers: 0,
     };
-    let gathers = root_course(scope, none, Along::RootGathers, flows);
-    validate_body(story, &story.names[..0], body, list, gathers)
+    let gathers = Body {
+        story,
+        knot: &story.names[..0],
+        course: root_course(scope, none, Along::RootGathers, flows),
+    };
+    gathers.validate(body, list)
 }

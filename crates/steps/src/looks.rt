@@ -12,7 +12,7 @@ use items::named::Sought;
 use records::sorts::Sort;
 use rules::Rule;
 use sets::Class;
-use sets::members::put_next;
+use sets::members::NamedItems;
 
 // Which body is looked at: a stitch's, or the own list of a function.
 #[derive(Clone, Copy)]
@@ -117,9 +117,12 @@ pub fn is_body_clear(look: Look, story: &Story<'_>, knot: &[u32], body: &mut [u3
     let scope = at.scope;
     let first = scope.first;
     let last = scope.last;
-    let items = &story.kept[first..last];
+    let items = NamedItems {
+        file: story.file,
+        items: &story.kept[first..last],
+    };
     let mut gathers = 0;
-    for (i, &item) in items.iter().enumerate() {
+    for (i, &item) in items.items.iter().enumerate() {
         let asked = Asked {
             story,
             knot,
@@ -129,15 +132,7 @@ pub fn is_body_clear(look: Look, story: &Story<'_>, knot: &[u32], body: &mut [u3
         if !is_item_clear(look, &asked) {
             return false;
         }
-        gathers = put_next(
-            Sought::Gather,
-            story.file,
-            items,
-            i,
-            gathers,
-            Class::Gather,
-            body,
-        );
+        gathers = items.put_next(Sought::Gather, i, gathers, Class::Gather, body);
     }
     true
 }

@@ -2,7 +2,6 @@
 ghost use Rattle.std.specs.Prelude.{◌≡◌, false, [], ◌∷◌, ◌+◌, ◌<◌, length};
 ghost use Rattle.items.specs.declared.named.Sought.TheVariants as sought;
 ghost use Rattle.items.specs.Bodies.{kept_story};
-ghost use Rattle.items.specs.Standing.{NamesStand};
 ghost use Rattle.sets.specs.Members.{Members, MembersPut};
 ghost use Rattle.rules.specs.Rules as rules;
 ghost use Rattle.steps.specs.Brackets.{step_of, on_gathers};
@@ -17,7 +16,7 @@ use broken::{At, Rests, Scope};
 use items::items::{named_at, place_in};
 use items::named::Sought;
 use sets::Class;
-use sets::members::put_next;
+use sets::members::NamedItems;
 
 // A step along a body: where it runs, the numbers of the items from which on the names are in no set, the step, and what was heard
 // before.
@@ -55,22 +54,14 @@ fn visit_of(turn: Turn, tally: Tally, gathers: usize, number: usize, item: u32) 
 
 // Passes item number i: in a step on gathers its name is put into the body's set where it is a gather. The answer is the number of the item from
 // which on no gather is in the set.
-fn pass_gather(
-    step: Step,
-    file: &[u8],
-    items: &[u32],
-    i: usize,
-    rest: usize,
-    body: &mut [u32],
-) -> usize
-    requires i_in_bounds { i < length items.now }
-    requires names_stand { NamesStand file.now items.now }
-    requires members { Members sought.Gather file.now 2 items.now i body.old rest }
-    ensures members_put { MembersPut sought.Gather file.now 2 items.now (i + 1) body.old body.new result }
+fn pass_gather(step: Step, items: NamedItems<'_>, i: usize, rest: usize, body: &mut [u32]) -> usize
+    requires i_in_bounds { i < length items.items.now }
+    requires members { Members sought.Gather items.file.now 2 items.items.now i body.old rest }
+    ensures members_put { MembersPut sought.Gather items.entry.file.now 2 items.entry.items.now (i + 1) body.old body.new result }
     ensures body_unchanged { on_gathers (step_of step) ≡ false → body.new ≡ body.old }
 {
     if step.is_on_gathers() {
-        return put_next(Sought::Gather, file, items, i, rest, Class::Gather, body);
+        return items.put_next(Sought::Gather, i, rest, Class::Gather, body);
     }
     rest
 }
@@ -90,17 +81,20 @@ pub fn validate_nodes(
     let scope = turn.scope;
     let first = scope.first;
     let last = scope.last;
-    let items = &story.kept[first..last];
+    let items = NamedItems {
+        file: story.file,
+        items: &story.kept[first..last],
+    };
     let rules = turn.step.rules();
     let mut tally = turn.tally;
     let mut gathers = turn.rests.gathers;
-    for (i, &item) in items.iter().enumerate() {
+    for (i, &item) in items.items.iter().enumerate() {
         if is_full(tally) {
             return tally;
         }
         let v = visit_of(turn, tally, gathers, i, item);
         tally = visit_thing(story, knot, body, rules, list, v);
-        gathers = pass_gather(turn.step, story.file, items, i, gathers, body);
+        gathers = pass_gather(turn.step, items, i, gathers, body);
     }
     next_run(tally)
 }

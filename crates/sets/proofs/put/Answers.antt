@@ -1,9 +1,7 @@
 -- `sets::put` meets its contract, by where the walk over the slots of the name ends. Assumes nothing.
-use native.Mathlib.Omega.{arith}
-use Rattle.sets.proofs.Putting.{found-known, exhausted-full, vacant-added, vacant-inside}
+use Rattle.sets.proofs.Putting.{found-known, exhausted-full, vacant-added}
 use Rattle.sets.proofs.Walking.{number-bound}
 use Rattle.sets.specs.Sets.{number_of}
-use borrow.Author.Rules.{rules}
 use Rattle.sets.proofs.put.Goals as goal
 
 pub returns-in-Found : goal.returns-in-Found

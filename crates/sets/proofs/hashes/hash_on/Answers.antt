@@ -1,6 +1,6 @@
 -- `sets::hashes::hash_on` meets its contract. The loop's invariant: what is left of the word goes on from the hash. Assumes nothing.
 use native.Mathlib.Omega.{arith}
-use Rattle.sets.proofs.Hashing.{hashing-start, hashing-next, hashing-end}
+use Rattle.sets.proofs.Hashing.{hashing-next, hashing-end}
 use Rattle.sets.proofs.hashes.hash_on.Goals as goal
 
 pub loop-byte-preserved : goal.loop-byte-preserved

@@ -1,6 +1,4 @@
 -- `sets::hashes::home_of` meets its contract. Assumes nothing.
-use native.Mathlib.Omega.{arith}
-use Rattle.sets.proofs.Hashing.{product-fits}
 use Rattle.sets.proofs.hashes.home_of.Goals as goal
 
 pub returns : goal.returns

@@ -10,14 +10,17 @@ use Rattle.steps.proofs.context.validate_story.Goals as goal
 pub root_scope-scope-requires : goal.root_scope-scope-requires
 root_scope-scope-requires c = record { in_order = kept-order c.args.story.now.targets_ready.read; rising = kept-rising c.args.story.now.targets_ready.read }
 
+pub invariant_of-kept : goal.invariant_of-kept
+invariant_of-kept c = record { names_stand = kept-names-stand c.args.story.now.targets_ready.read }
+
 pub put_knot-rests-requires : goal.put_knot-rests-requires
-put_knot-rests-requires c = record { scope_ready = root-scope-ready c.args.story.now.targets_ready.read c.root_scope-scope.ensures; names_stand = kept-names-stand c.args.story.now.targets_ready.read }
+put_knot-rests-requires c = root-scope-ready c.args.story.now.targets_ready.read c.root_scope-scope.ensures
 
-pub validate_body-first-requires : goal.validate_body-first-requires
-validate_body-first-requires c = root-course-ready c.args.story.now.targets_ready.read c.root_scope-scope.ensures c.root_course-root.ensures c.put_knot-rests.ensures.filled
+pub invariant_of-root : goal.invariant_of-root
+invariant_of-root c = record { ready = root-course-ready c.args.story.now.targets_ready.read c.root_scope-scope.ensures c.root_course.ensures c.put_knot-rests.ensures.filled }
 
-pub validate_body-requires : goal.validate_body-requires
-validate_body-requires c = root-course-ready c.args.story.now.targets_ready.read c.root_scope-scope.ensures c.root_course-gathers.ensures (idle-knot _ _ _)
+pub invariant_of-gathers : goal.invariant_of-gathers
+invariant_of-gathers c = record { ready = root-course-ready c.args.story.now.targets_ready.read c.root_scope-scope.ensures c.root_course-2.ensures (idle-knot _ _ _) }
 
 pub returns : goal.returns
-returns c = story-told c.args.story.now.targets_ready.read c.root_scope-scope.ensures (heard c.args.t.tally c.args.list.now) (first-steps-told c.args.story.now.targets_ready.read c.root_scope-scope.ensures _ c.root_course-root.ensures c.validate_body-first.ensures) c.validate_flows-flows.ensures (last-step-told c.args.story.now.targets_ready.read c.root_scope-scope.ensures _ c.root_course-gathers.ensures c.validate_body.ensures)
+returns c = story-told c.args.story.now.targets_ready.read c.root_scope-scope.ensures (heard c.args.t.tally c.args.list.now) (first-steps-told c.args.story.now.targets_ready.read c.root_scope-scope.ensures _ c.root_course.ensures c.validate-first.ensures) c.validate_flows-flows.ensures (last-step-told c.args.story.now.targets_ready.read c.root_scope-scope.ensures _ c.root_course-2.ensures c.validate.ensures)

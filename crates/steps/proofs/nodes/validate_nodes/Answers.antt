@@ -8,11 +8,13 @@ use Rattle.steps.proofs.nodes.validate_nodes.Goals as goal
 pub returns-then-is_full : goal.returns-then-is_full
 returns-then-is_full c = record { list_after = λ s h. turning-full c.loop-i.invariant s h c.is_full.ensures c.if-is_full.true; body_unchanged = λ l. c.loop-i.invariant.stays l }
 
+pub invariant_of-items : goal.invariant_of-items
+unfolding part
+invariant_of-items c = record { names_stand = stand-part (kept-names-stand c.args.story.now.targets_ready.read) c.args.turn.scope.first c.args.turn.scope.last }
+
 pub pass_gather-gathers-requires : goal.pass_gather-gathers-requires
 unfolding part
-pass_gather-gathers-requires c =
-    let scope = c.args.turn.scope in
-    record { i_in_bounds = c.loop-i-test.true; names_stand = stand-part (kept-names-stand c.args.story.now.targets_ready.read) scope.first scope.last; members = c.loop-i.invariant.set.gathers }
+pass_gather-gathers-requires c = record { i_in_bounds = c.loop-i-test.true; members = c.loop-i.invariant.set.gathers }
 
 pub loop-i-preserved : goal.loop-i-preserved
 unfolding part
