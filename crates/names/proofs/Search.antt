@@ -1,5 +1,5 @@
 -- Searching a table of words for a name: what is left of the table. Assumes nothing.
-use Rattle.std.proofs.Common.{◌≡◌, Bool, true, false, ◌||◌, List, [], ◌∷◌, ℕ, ◌+◌, ◌-◌, ◌≤◌, ◌<◌, refl, sym, ◌∙◌, ap, arith, length, take, drop, length-append, length-drop, take_all}
+use Rattle.std.proofs.Common.{◌≡◌, true, false, ◌||◌, List, [], ◌∷◌, ◌+◌, ◌-◌, ◌≤◌, ◌<◌, refl, ◌∙◌, ap, arith, length, take, drop, length-append, length-drop, take_all}
 use lib.Seq.{take-append_seam, drop_at}
 use Rattle.names.specs.Words.{Bytes, same, one_of}
 use Rattle.names.specs.Counted.{name_at, counted, table}

@@ -1,6 +1,6 @@
 -- What the tests on words say: `same` is equality, `begins` and `ends` split the word. Assumes nothing.
 use mathlib.Core.Path.{◌≡◌, refl, sym, ◌∙◌, ap, ap₂, subst}
-use mathlib.Core.Bool.{true, false, ◌&&◌, or-false}
+use mathlib.Core.Bool.{true, false, or-false}
 use mathlib.Core.List.{[], ◌∷◌, ◌++◌}
 use mathlib.Core.Logic.{◌⊎◌, inl, inr}
 use Prim.Native.Nat.{ℕ, ◌+◌, ◌-◌, ◌≤◌, ◌<◌}
@@ -8,7 +8,7 @@ use native.Mathlib.Omega.{arith}
 use native.Mathlib.Numerals.{add-one}
 use lib.Dec.{T, eqb, eqb→eq, eqb_refl}
 use lib.ListN.{length, get_or, take, drop, length-append, length-drop, take-append-drop, drop_of_length-le}
-use lib.Pointwise.{pointwise}
+use lib.Seq.{drop-cons}
 use borrow.Author.Tests.{eq-eqb, ne_eqb}
 use Rattle.names.specs.Words.{Bytes, same, begins, ends}
 use Rattle.names.proofs.Bools.{is_false, and_left, and_right, and_both, or_cases, or_left, or_right}
@@ -32,12 +32,25 @@ eq-same a b e = subst (λ (x : Bytes). T (same a x)) e (same_refl a)
 pub same-lengths : (a b : Bytes) → (length a ≡ length b → ⊥) → same a b ≡ false
 same-lengths a b h = is_false (same a b) (λ t. h (ap length (same-eq a b t)))
 
--- the library's comparison, byte by byte
-pub same-pointwise : (a b : Bytes) → pointwise eqb a b ≡ same a b
-same-pointwise [] [] = refl
-same-pointwise [] (y ∷ ys) = refl
-same-pointwise (x ∷ xs) [] = refl
-same-pointwise (x ∷ xs) (y ∷ ys) = ap (λ t. eqb x y && t) (same-pointwise xs ys)
+-- the names agree before i, so that they are the same if their rests are (a record, so that both are found at each use)
+pub record Agree (a b : Bytes) (i : ℕ) : Type 0 where
+  pub rests : same a b ≡ same (drop i a) (drop i b)
+
+pub agree-start : (a b : Bytes) → Agree a b 0
+agree-start a b = record { rests = refl }
+
+module _ {a b : Bytes} {i : ℕ} (agree : Agree a b i) where
+  -- at their ends they are the same
+  pub agree-end : length a ≤ i → length b ≤ i → same a b ≡ true
+  agree-end h k = agree.rests ∙ rw (drop_of_length-le a h, drop_of_length-le b k)
+
+  -- the byte at i too
+  pub agree-next : i < length a → i < length b → get_or a i 0 ≡ get_or b i 0 → Agree a b (i + 1)
+  agree-next h k e = record { rests = agree.rests ∙ rw (drop-cons a i 0 h, drop-cons b i 0 k, eq-eqb _ _ e, add-one) }
+
+  -- another byte at i
+  pub agree-stop : i < length a → i < length b → (get_or a i 0 ≡ get_or b i 0 → ⊥) → same a b ≡ false
+  agree-stop h k e = agree.rests ∙ rw (drop-cons a i 0 h, drop-cons b i 0 k, ne_eqb _ _ e)
 
 -- BEGINS
 pub begins-split : (b : ℕ) (w : Bytes) → T (begins b w) → (r : Bytes) × (w ≡ b ∷ r)

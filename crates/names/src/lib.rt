@@ -7,11 +7,19 @@ ghost use Rattle.names.specs.Reserved.{END, DONE, back, builtins};
 ghost use Rattle.names.specs.Targets.{passes};
 ghost use Rattle.names.specs.Counted.{name_at};
 
-// Two names have the same bytes.
+// Two names have the same bytes. Stops at the first byte that differs.
 pub fn same_name(a: &[u8], b: &[u8]) -> bool
     ensures { result ≡ same a.now b.now }
 {
-    a == b
+    if a.len() != b.len() {
+        return false;
+    }
+    for (i, &x) in a.iter().enumerate() {
+        if x != b[i] {
+            return false;
+        }
+    }
+    true
 }
 
 // The target passes without being looked up: empty, "->", or starting with "$".
