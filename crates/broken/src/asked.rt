@@ -7,6 +7,7 @@ ghost use Rattle.broken.specs.Scopes.{broken_at, NamesReady, TargetsReady, Scope
 use crate::{At, Rests, Scope, StoryView};
 use rules::Rule;
 use sets::known::Known;
+use story::FileView;
 
 // A story at hand: its file, its kept items, the sets of its names and of its targets, and what it has in no set. The sets are filled.
 #[derive(Clone, Copy)]
@@ -23,14 +24,17 @@ pub struct Story<'a> {
 impl<'a> Story<'a> {
     // The names of the story, by their set.
     pub fn known(&self) -> Known<'a>
-        ensures file { result.file.now ≡ self.now.file.now }
-        ensures sections { result.sections ≡ self.now.view.sections }
+        ensures file { result.source.file.now ≡ self.now.file.now }
+        ensures sections { result.source.sections ≡ self.now.view.sections }
         ensures set { result.set.now ≡ self.now.names.now }
         ensures rest { result.rest ≡ self.now.view.names }
     {
-        Known {
+        let source = FileView {
             file: self.file,
             sections: self.view.sections,
+        };
+        Known {
+            source,
             set: self.names,
             rest: self.view.names,
         }

@@ -19,10 +19,10 @@ use sets::known::Known;
 impl Thing {
     // Rule 1: a function diverted to.
     pub fn is_function_diverted_to(&self, known: &Known<'_>) -> bool
-        ensures { (h : rules.Here) (before : List What) (w : What) → ThingIs known.now.file.now self.now w → result ≡ broken (known_in known.now.sections known.now.file.now) h before Rule.FunctionDivertedTo w }
+        ensures { (h : rules.Here) (before : List What) (w : What) → ThingIs known.now.source.file.now self.now w → result ≡ broken (known_in known.now.source.sections known.now.source.file.now) h before Rule.FunctionDivertedTo w }
     {
         if self.has_target() {
-            let target = name_at(known.file, self.name);
+            let target = name_at(known.source.file, self.name);
             return !passes(target) && known.is_function(target);
         }
         false
@@ -43,10 +43,10 @@ impl Thing {
 
     // Rule 3: a flow called that is no function.
     pub fn is_flow_called(&self, known: &Known<'_>) -> bool
-        ensures { (h : rules.Here) (before : List What) (w : What) → ThingIs known.now.file.now self.now w → result ≡ broken (known_in known.now.sections known.now.file.now) h before Rule.FlowCalled w }
+        ensures { (h : rules.Here) (before : List What) (w : What) → ThingIs known.now.source.file.now self.now w → result ≡ broken (known_in known.now.source.sections known.now.source.file.now) h before Rule.FlowCalled w }
     {
         if self.is(Sort::Call) {
-            let name = name_at(known.file, self.name);
+            let name = name_at(known.source.file, self.name);
             return !call_passes(known, name) && known.is_flow(name);
         }
         false

@@ -5,6 +5,7 @@ ghost use Rattle.broken.specs.Scopes.{known_in, counted_at, TargetsReady};
 
 use crate::StoryView;
 use enumerator::entries::has_target;
+use items::files::KeptFile;
 use names::{is_builtin_function, is_reserved};
 use searches::counted_has_name;
 use sets::known::Known;
@@ -20,7 +21,7 @@ pub fn is_counted(file: &[u8], at: usize, name: &[u8]) -> bool
 // A call name passes if it is a function's, an external's or one of the 21 words.
 #[tactic(auto, using(crate::proofs::Answered::names_asked))]
 pub fn call_passes(known: &Known<'_>, name: &[u8]) -> bool
-    ensures { result ≡ call_passes (known_in known.now.sections known.now.file.now) name.now }
+    ensures { result ≡ call_passes (known_in known.now.source.sections known.now.source.file.now) name.now }
 {
     known.is_function(name) || known.is_external(name) || is_builtin_function(name)
 }
@@ -37,7 +38,12 @@ pub fn is_target(file: &[u8], kept: &[u32], targets: &[u64], v: StoryView, targe
         return true;
     }
     if v.left {
-        return has_target(file, v.sections, kept, target);
+        let story = KeptFile {
+            file,
+            sections: v.sections,
+            kept,
+        };
+        return has_target(&story, target);
     }
     false
 }

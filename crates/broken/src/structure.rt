@@ -19,23 +19,23 @@ use names::{is_end_or_done, name_at};
 use records::sorts::Sort;
 use sets::Class;
 use sets::known::Known;
-use sets::members::has_among;
+use sets::members::Among;
 
 impl Thing {
     // Rule 4: a temp or a parameter with a function's name.
     pub fn is_name_of_function(&self, known: &Known<'_>) -> bool
-        ensures { (h : rules.Here) (before : List What) (w : What) → ThingIs known.now.file.now self.now w → result ≡ broken (known_in known.now.sections known.now.file.now) h before Rule.NameIsFunction w }
+        ensures { (h : rules.Here) (before : List What) (w : What) → ThingIs known.now.source.file.now self.now w → result ≡ broken (known_in known.now.source.sections known.now.source.file.now) h before Rule.NameIsFunction w }
     {
         (self.is(Sort::Temp) || self.is(Sort::Parameter))
-            && known.is_function(name_at(known.file, self.name))
+            && known.is_function(name_at(known.source.file, self.name))
     }
 
     // Rule 5: a parameter or a stitch with a global's name.
     pub fn is_name_of_global(&self, known: &Known<'_>) -> bool
-        ensures { (h : rules.Here) (before : List What) (w : What) → ThingIs known.now.file.now self.now w → result ≡ broken (known_in known.now.sections known.now.file.now) h before Rule.NameIsGlobal w }
+        ensures { (h : rules.Here) (before : List What) (w : What) → ThingIs known.now.source.file.now self.now w → result ≡ broken (known_in known.now.source.sections known.now.source.file.now) h before Rule.NameIsGlobal w }
     {
         (self.is(Sort::Parameter) || self.is(Sort::StitchName))
-            && known.is_global(name_at(known.file, self.name))
+            && known.is_global(name_at(known.source.file, self.name))
     }
 
     // Rule 6: a temp with a parameter's name.
@@ -86,16 +86,16 @@ impl Here<'_> {
             let first = self.scope.knot;
             let end = self.scope.end;
             let items = &self.kept[first..end];
-            return has_among(
-                Sought::Label,
-                self.file,
+            let labels = Among {
+                sought: Sought::Label,
+                file: self.file,
                 items,
-                items.len(),
-                self.rests.labels,
-                Class::Label,
-                knot,
-                name_at(self.file, t.name),
-            );
+                passed: items.len(),
+                rest: self.rests.labels,
+                class: Class::Label,
+                set: knot,
+            };
+            return labels.has(name_at(self.file, t.name));
         }
         false
     }
@@ -109,16 +109,16 @@ impl Here<'_> {
         if t.is(Sort::Gather) {
             let first = self.scope.first;
             let last = self.scope.last;
-            return has_among(
-                Sought::Gather,
-                self.file,
-                &self.kept[first..last],
-                number,
-                self.rests.gathers,
-                Class::Gather,
-                body,
-                name_at(self.file, t.name),
-            );
+            let gathers = Among {
+                sought: Sought::Gather,
+                file: self.file,
+                items: &self.kept[first..last],
+                passed: number,
+                rest: self.rests.gathers,
+                class: Class::Gather,
+                set: body,
+            };
+            return gathers.has(name_at(self.file, t.name));
         }
         false
     }

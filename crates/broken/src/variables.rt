@@ -17,41 +17,42 @@ use items::named::Sought;
 use names::name_at;
 use records::sorts::Sort;
 use sets::Class;
-use sets::members::has_among;
+use sets::members::Among;
 
-// The name is a parameter or a temp of the flow or the stitch with these parameters and this run of items.
-#[tactic(auto, using(crate::proofs::Among::temps_among), unfolding(story::specs::Flows::part))]
-fn is_declared(
-    file: &[u8],
-    kept: &[u32],
-    set: &[u32],
+// What a flow or a stitch declares: its parameters, and the temps of its run of kept items, in the set but for those from item `rest` on.
+#[derive(Clone, Copy)]
+struct Declared<'a> {
     params: usize,
     first: usize,
     last: usize,
     rest: usize,
-    name: &[u8],
-) -> bool
-    requires params_in_bounds { (params ≤ length file.now) × (first ≤ last) × (last ≤ length kept.now) }
-    requires members { Members sought.Temp file.now 1 (part first last kept.now) (length (part first last kept.now)) set.now rest }
-    ensures { result ≡ declared_in file.now kept.now params first last name.now }
-{
-    if is_counted(file, params, name) {
-        return true;
-    }
-    let items = &kept[first..last];
-    has_among(
-        Sought::Temp,
-        file,
-        items,
-        items.len(),
-        rest,
-        Class::Temp,
-        set,
-        name,
-    )
+    set: &'a [u32],
 }
 
 impl Here<'_> {
+    // The name is a parameter or a temp that the flow or the stitch declares.
+    #[tactic(auto, using(crate::proofs::Among::temps_among), unfolding(story::specs::Flows::part))]
+    fn is_declared(&self, d: Declared<'_>, name: &[u8]) -> bool
+        requires params_in_bounds { (d.params ≤ length self.now.file.now) × (d.first ≤ d.last) × (d.last ≤ length self.now.kept.now) }
+        requires members { Members sought.Temp self.now.file.now 1 (part d.first d.last self.now.kept.now) (length (part d.first d.last self.now.kept.now)) d.set.now d.rest }
+        ensures { result ≡ declared_in self.now.file.now self.now.kept.now d.entry.params d.entry.first d.entry.last name.now }
+    {
+        if is_counted(self.file, d.params, name) {
+            return true;
+        }
+        let items = &self.kept[d.first..d.last];
+        let temps = Among {
+            sought: Sought::Temp,
+            file: self.file,
+            items,
+            passed: items.len(),
+            rest: d.rest,
+            class: Class::Temp,
+            set: d.set,
+        };
+        temps.has(name)
+    }
+
     // Rule 15: a variable that the knot declares and the stitch does not.
     #[tactic(auto, unfolding(rules::specs::Rules::broken, crate::specs::Scopes::here_in))]
     pub fn is_variable_forbidden(&self, knot: &[u32], body: &[u32], number: usize, t: Thing) -> bool
@@ -63,13 +64,21 @@ impl Here<'_> {
             let s = self.scope;
             let n = self.rests;
             let name = name_at(self.file, t.name);
-            if is_declared(
-                self.file, self.kept, knot, s.outer, s.knot, s.own, n.temps, name,
-            ) {
-                return !is_declared(
-                    self.file, self.kept, body, s.params, s.first, s.last, n.own, name,
-                );
-            }
+            let of_knot = Declared {
+                params: s.outer,
+                first: s.knot,
+                last: s.own,
+                rest: n.temps,
+                set: knot,
+            };
+            let of_stitch = Declared {
+                params: s.params,
+                first: s.first,
+                last: s.last,
+                rest: n.own,
+                set: body,
+            };
+            return self.is_declared(of_knot, name) && !self.is_declared(of_stitch, name);
         }
         false
     }

@@ -4,16 +4,38 @@
 ghost use Rattle.std.specs.Prelude.{◌≡◌, ℕ, ◌+◌, ◌*◌, ◌^◌, ◌≤◌, ◌<◌, List, [], ◌∷◌, ◌++◌, length, take, replicate};
 ghost use Rattle.std.specs.Fn.{FnOnceReturnsAtMut};
 ghost use Rattle.builder.specs.Building.{Building, Puts, Measures, number, name, negations};
+ghost use Rattle.builder.specs.Kinds.{kind_byte};
 
 use std::marker::Model;
 
-// The kind bytes of a Negate and of a constant among expressions.
-const NEGATE: u8 = 3;
-
-const CONSTANT: u8 = 0;
-
 // The trailer's last four bytes, 49 4B 01 00, as a number.
 const MARK: usize = 84809;
+
+// Kinds of nodes, each with its kind byte: those that the programs put.
+#[derive(Clone, Copy)]
+pub enum Kind {
+    Output = 2,
+    Divert = 3,
+    Choice = 14,
+    Gather = 15,
+    Call = 16,
+}
+
+impl Kind {
+    // The byte that a record of this kind begins with.
+    pub fn byte(self) -> u8
+        ensures { result ≡ kind_byte self }
+    {
+        self as u8
+    }
+}
+
+// Kinds of expressions, each with its kind byte: those that `negations` puts.
+#[derive(Clone, Copy)]
+enum Expr {
+    Constant = 0,
+    Negate = 3,
+}
 
 // Where the four sections of a file start.
 #[derive(Clone, Copy)]
@@ -140,9 +162,9 @@ impl<'a> Builder<'a> {
         ensures { Puts self.old (negations many) self.new }
     {
         if many == 0 {
-            self.head(CONSTANT, 0);
+            self.head(Expr::Constant as u8, 0);
         } else {
-            self.head(NEGATE, 5 * many);
+            self.head(Expr::Negate as u8, 5 * many);
             self.negations(many - 1);
         }
     }

@@ -1,7 +1,7 @@
 -- Where a step runs, as the code has it, and what holds while the steps run. Assumes nothing.
-use Rattle.std.specs.Prelude.{ℕ, ◌≤◌, ◌≡◌, Bool, true, not, ◌&&◌, ◌||◌, List, [], ◌∷◌, length, drop}
-use Rattle.std.specs.Coded.{×_prop, Π_prop, →_prop, Unit-prop, le_prop}
-use Rattle.names.specs.Words.{Bytes, any, one_of, Sorted}
+use Rattle.std.specs.Prelude.{ℕ, ◌≤◌, ◌≡◌, Bool, true, not, ◌&&◌, ◌||◌, List, length, drop}
+use Rattle.std.specs.Coded.{le_prop}
+use Rattle.names.specs.Words.{Bytes, any, one_of}
 use Rattle.records.specs.Trace.{well, ends}
 use Rattle.story.specs.declared.Sections.{Sections}
 use Rattle.records.specs.Items.{What}
@@ -9,7 +9,7 @@ use Rattle.story.specs.Story.{Stitch, words}
 use Rattle.story.specs.Flows.{part, counted_in, pieces_in, stitch_in, stitches}
 use Rattle.story.specs.File.{InOrder}
 use Rattle.records.specs.Numbers.{item_in}
-use Rattle.items.specs.Bodies.{kept_in, Rising, kept_story}
+use Rattle.items.specs.Bodies.{kept_in, Rising, rising_prop, kept_story}
 use Rattle.items.specs.Search.{label_in, temp_in}
 use Rattle.symbols.specs.Index.{spellings}
 use Rattle.symbols.specs.Rows as rows
@@ -64,15 +64,6 @@ pub record ScopeReady (file kept : List ℕ) (v : ScopeView) : Type 0 where
   pub outer : v.outer ≤ length file
   pub ordered : v.from ≤ v.to
   pub rising : Rising kept
-
--- a list is sorted in one way at most
-sorted_prop : {A : Type 0} {R : A → A → Type 0} → ((x y : A) → IsProp (R x y)) → (xs : List A) → IsProp (Sorted R xs)
-sorted_prop p [] = Unit-prop
-sorted_prop p (x ∷ xs) = ×_prop (Π_prop (λ y. →_prop (p x y))) (sorted_prop p xs)
-
--- numbers rise in one way at most
-pub rising_prop : (kept : List ℕ) → IsProp (Rising kept)
-rising_prop kept = sorted_prop (λ x y. le_prop) kept
 
 -- so a scope is ready in one way at most
 pub scope_ready_prop : (file kept : List ℕ) (v : ScopeView) → IsProp (ScopeReady file kept v)

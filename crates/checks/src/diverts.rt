@@ -8,6 +8,7 @@ ghost use Rattle.checks.specs.Judged.{judged_by, target_judged, call_judged, var
 ghost use Rattle.checks.specs.Context.{known_in, here_at};
 
 use crate::ScopeView;
+use crate::known::{is_external, is_flow};
 use crate::parameters::is_counted;
 use crate::structure::{has_target, is_sort};
 use crate::view::{IndexView, StoryView};
@@ -50,10 +51,10 @@ impl StoryView<'_> {
     fn check_function_call_target(&self, name: &[u8]) -> Option<Rule>
         ensures { result ≡ call_judged (known_in self.now.source.sections self.now.source.file.now) name.now }
     {
-        if self.is_function(name) || self.source.is_external(name) || is_builtin_function(name) {
+        if self.is_function(name) || is_external(&self.source, name) || is_builtin_function(name) {
             return None;
         }
-        if self.source.is_flow(name) {
+        if is_flow(&self.source, name) {
             return Some(Rule::FlowCalled);
         }
         None

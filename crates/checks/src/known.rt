@@ -2,39 +2,38 @@
 ghost use Rattle.std.specs.Prelude.{◌≡◌};
 ghost use Rattle.checks.specs.Context.{known_in};
 
-use crate::view::{FileView, IndexView, StoryView};
+use crate::view::{IndexView, StoryView};
 use names::is_reserved;
 use searches::{is_flow_name, section_has_name};
+use story::FileView;
 use tables::functions::is_function_in;
 use tables::hints::find_target_in;
 
-impl FileView<'_> {
-    // The name is a flow's.
-    #[tactic(auto, using(crate::proofs::Asked::flow_asked))]
-    pub fn is_flow(&self, name: &[u8]) -> bool
-        ensures { result ≡ (known_in self.now.sections self.now.file.now).flow name.now }
-    {
-        let c = self.sections;
-        is_flow_name(&self.file[c.flows..c.end], name)
-    }
+// The name is a flow's.
+#[tactic(auto, using(crate::proofs::Asked::flow_asked))]
+pub fn is_flow(source: &FileView<'_>, name: &[u8]) -> bool
+    ensures { result ≡ (known_in source.now.sections source.now.file.now).flow name.now }
+{
+    let c = source.sections;
+    is_flow_name(&source.file[c.flows..c.end], name)
+}
 
-    // The name is a global's.
-    #[tactic(auto, using(crate::proofs::Asked::global_asked))]
-    pub fn is_global(&self, name: &[u8]) -> bool
-        ensures { result ≡ (known_in self.now.sections self.now.file.now).global name.now }
-    {
-        let c = self.sections;
-        section_has_name(&self.file[0..c.externals], name)
-    }
+// The name is a global's.
+#[tactic(auto, using(crate::proofs::Asked::global_asked))]
+pub fn is_global(source: &FileView<'_>, name: &[u8]) -> bool
+    ensures { result ≡ (known_in source.now.sections source.now.file.now).global name.now }
+{
+    let c = source.sections;
+    section_has_name(&source.file[0..c.externals], name)
+}
 
-    // The name is an external's.
-    #[tactic(auto, using(crate::proofs::Asked::external_asked))]
-    pub fn is_external(&self, name: &[u8]) -> bool
-        ensures { result ≡ (known_in self.now.sections self.now.file.now).external name.now }
-    {
-        let c = self.sections;
-        section_has_name(&self.file[c.externals..c.root], name)
-    }
+// The name is an external's.
+#[tactic(auto, using(crate::proofs::Asked::external_asked))]
+pub fn is_external(source: &FileView<'_>, name: &[u8]) -> bool
+    ensures { result ≡ (known_in source.now.sections source.now.file.now).external name.now }
+{
+    let c = source.sections;
+    section_has_name(&source.file[c.externals..c.root], name)
 }
 
 impl StoryView<'_> {
@@ -43,7 +42,7 @@ impl StoryView<'_> {
     pub fn is_function(&self, name: &[u8]) -> bool
         ensures { result ≡ (known_in self.now.source.sections self.now.source.file.now).function name.now }
     {
-        is_function_in(self.source.file, self.source.sections, self.functions, name)
+        is_function_in(&self.source, self.functions, name)
     }
 }
 

@@ -1,38 +1,29 @@
 // Labels, and what a stitch may not see, by the kept items of the flow or the stitch at hand.
 ghost use Rattle.std.specs.Prelude.{◌≡◌, ◌≤◌, length};
-ghost use Rattle.items.specs.Bodies.{Rising};
 ghost use Rattle.checks.specs.Context.{declared_at, here_at};
 
 use crate::parameters::is_counted;
 use crate::view::BodyView;
 use items::named::{has_label, has_temp};
-use items::runs::body_items;
+use items::runs::KeptBody;
 
 // The name is a parameter or a temp of the flow or the stitch with these parameters and this body.
-fn is_declared(
-    file: &[u8],
-    kept: &[u32],
-    params: usize,
-    from: usize,
-    to: usize,
-    name: &[u8],
-) -> bool
-    requires params_in_bounds { params ≤ length file.now }
-    requires rising { Rising kept.now }
-    ensures { result ≡ declared_at file.now kept.now params from to name.now }
+fn is_declared(body: &KeptBody<'_>, params: usize, name: &[u8]) -> bool
+    requires { params ≤ length body.now.file.now }
+    ensures { result ≡ declared_at body.now.file.now body.now.kept.numbers.now params body.now.from body.now.to name.now }
 {
-    is_counted(file, params, name) || has_temp(file, body_items(kept, from, to), name)
+    is_counted(body.file, params, name) || has_temp(body.file, body.items(), name)
 }
 
 impl BodyView<'_> {
     // The name is a label that a temp may not have: the root's, or one of the knot and all its stitches.
     #[tactic(auto, unfolding(crate::specs::Context::here_at))]
     pub fn is_label(&self, name: &[u8]) -> bool
-        ensures { result ≡ (here_at self.now.file.now self.now.kept.now self.now.scope).label name.now }
+        ensures { result ≡ (here_at self.now.file.now self.now.kept.numbers.now self.now.scope).label name.now }
     {
         has_label(
             self.file,
-            body_items(self.kept, self.scope.body, self.scope.end),
+            self.kept.body_items(self.scope.body, self.scope.end),
             name,
         )
     }
@@ -40,10 +31,20 @@ impl BodyView<'_> {
     // The name is forbidden in the stitch: its knot declares it, and it does not.
     #[tactic(auto, unfolding(crate::specs::Context::here_at))]
     pub fn is_forbidden(&self, name: &[u8]) -> bool
-        ensures { result ≡ (here_at self.now.file.now self.now.kept.now self.now.scope).forbidden name.now }
+        ensures { result ≡ (here_at self.now.file.now self.now.kept.numbers.now self.now.scope).forbidden name.now }
     {
         let v = self.scope;
-        is_declared(self.file, self.kept, v.outer, v.body, v.stitches, name)
-            && !is_declared(self.file, self.kept, v.params, v.from, v.to, name)
+        let knot = KeptBody {
+            file: self.file,
+            kept: self.kept,
+            from: v.body,
+            to: v.stitches,
+        };
+        let own = KeptBody {
+            from: v.from,
+            to: v.to,
+            ..knot
+        };
+        is_declared(&knot, v.outer, name) && !is_declared(&own, v.params, name)
     }
 }

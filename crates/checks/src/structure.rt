@@ -7,11 +7,13 @@ ghost use Rattle.rules.specs.Steps.{bracket, Step, choices};
 ghost use Rattle.checks.specs.Judged.{judged_by, param_judged, stitch_judged};
 ghost use Rattle.checks.specs.Context.{known_in};
 
-use crate::view::{FileView, StoryView};
+use crate::known::is_global;
+use crate::view::StoryView;
 use items::items::{choice_has_explicit_divert, in_branch, item_name, sort_in};
 use names::is_end_or_done;
 use records::sorts::Sort;
 use rules::Rule;
+use story::FileView;
 
 // The item is of the sort.
 #[tactic(auto, using(records::proofs::Codes::same_code))]
@@ -53,16 +55,14 @@ pub fn check_function_body_purity(file: &[u8], item: u32) -> Option<Rule>
     None
 }
 
-impl FileView<'_> {
-    // A stitch's name: rule 5.
-    pub fn check_stitch_name(&self, name: &[u8]) -> Option<Rule>
-        ensures { result ≡ stitch_judged (known_in self.now.sections self.now.file.now) name.now }
-    {
-        if self.is_global(name) {
-            return Some(Rule::NameIsGlobal);
-        }
-        None
+// A stitch's name: rule 5.
+pub fn check_stitch_name(source: &FileView<'_>, name: &[u8]) -> Option<Rule>
+    ensures { result ≡ stitch_judged (known_in source.now.sections source.now.file.now) name.now }
+{
+    if is_global(source, name) {
+        return Some(Rule::NameIsGlobal);
     }
+    None
 }
 
 impl StoryView<'_> {
@@ -73,7 +73,7 @@ impl StoryView<'_> {
         if self.is_function(name) {
             return Some(Rule::NameIsFunction);
         }
-        if self.source.is_global(name) {
+        if is_global(&self.source, name) {
             return Some(Rule::NameIsGlobal);
         }
         None

@@ -1,6 +1,5 @@
 // A story and a body as the steps see them: borrowed parts, with what holds of them in the type.
 ghost use Rattle.std.specs.Prelude.{◌≡◌};
-ghost use Rattle.story.specs.File.{InOrder};
 ghost use Rattle.items.specs.Bodies.{kept_story};
 ghost use Rattle.symbols.specs.Index.{spellings};
 ghost use Rattle.symbols.specs.Rows.{spellings_in};
@@ -8,15 +7,8 @@ ghost use Rattle.tables.specs.Functions.{Functions};
 ghost use Rattle.checks.specs.Context.{ScopeReady, scope_ready_prop};
 
 use crate::ScopeView;
-use story::Sections;
-
-// A file and its sections, which stand in order.
-#[derive(Clone, Copy)]
-pub struct FileView<'a> {
-    pub file: &'a [u8],
-    pub sections: Sections,
-    pub ghost in_order: { InOrder sections file.now },
-}
+use items::runs::KeptNumbers;
+use story::FileView;
 
 // A file with the table of its story's functions.
 #[derive(Clone, Copy)]
@@ -40,7 +32,7 @@ pub struct IndexView<'a> {
 #[derive(Clone, Copy)]
 pub struct BodyView<'a> {
     pub file: &'a [u8],
-    pub kept: &'a [u32],
+    pub kept: KeptNumbers<'a>,
     pub scope: ScopeView,
-    pub ghost ready: { ScopeReady file.now kept.now scope } by { scope_ready_prop file.now kept.now scope },
+    pub ghost ready: { ScopeReady file.now kept.numbers.now scope } by { scope_ready_prop file.now kept.numbers.now scope },
 }

@@ -1,5 +1,5 @@
 -- The names of the root, a flow and a stitch are those at their places, and their parts lie within the file. Assumes nothing.
-use Rattle.std.specs.Prelude.{Option, Some, None}
+use Rattle.std.specs.Prelude.{Option, Some, None, is_some}
 use mathlib.Core.Path.{◌≡◌, refl, sym, ap}
 use mathlib.Core.Bool.{Bool, true, false, not, ◌&&◌}
 use mathlib.Core.List.{List, [], ◌∷◌, map}
@@ -7,7 +7,7 @@ use Prim.Native.Nat.{ℕ, ◌-◌, ◌<◌}
 use native.Mathlib.Omega.{arith}
 use lib.ListN.{length}
 use lib.Seq.{drop-length}
-use Rattle.names.specs.Words.{Bytes}
+use Rattle.names.specs.Words.{Bytes, any}
 use Rattle.names.proofs.Any.{any-map}
 use Rattle.story.specs.declared.Sections.{Sections}
 use Rattle.story.specs.Story.{Stitch}
@@ -20,7 +20,7 @@ use Rattle.searches.specs.declared.views.FlowView.{FlowView}
 use Rattle.searches.specs.declared.views.StitchView.{StitchView}
 use Rattle.searches.specs.Views.{flow_view_of, stitch_view_of}
 use Rattle.searches.proofs.Parts.{part_none}
-use Rattle.searches.proofs.Viewed.{FlowLaid, flow-laid, stitch-laid}
+use Rattle.searches.proofs.Viewed.{FlowLaid, flow-laid, stitch-laid, stitch-viewed}
 use Rattle.searches.proofs.Readable.{flow-readable, no_flow}
 use Rattle.items.specs.Bodies.{kept_story, kept_stitch, kept_stitches, kept_flow, Kept, StitchesKept}
 use Rattle.items.specs.Runs.{numbers_from}
@@ -156,6 +156,14 @@ flows-ready-from q ready = record {
 module _ (file : List ℕ) (at end : ℕ) (ready : StitchesReady file at end) {r : Option StitchView} (told : r ≡ stitch_view_of file at end) where
   pub no-stitches : r ≡ None → kept_stitches file at end ≡ []
   no-stitches q = ap (map stitch_without_plain) (stitches-none file at end ready told q)
+
+  -- the first is seen exactly if there is some
+  pub some-stitch : is_some r ≡ any (λ (t : Stitch). true) (kept_stitches file at end)
+  some-stitch = by-view r refl
+    where
+      by-view : (v : Option StitchView) → r ≡ v → is_some r ≡ any (λ (t : Stitch). true) (kept_stitches file at end)
+      by-view None q = rw (q, no-stitches q) refl
+      by-view (Some w) q = rw (q, stitch-viewed file at end w told q) refl
 
   module _ (w : StitchView) (q : r ≡ Some w) where
     pub stitch-seen-ready : StitchReady file w

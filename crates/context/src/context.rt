@@ -12,19 +12,19 @@ use crate::BreachAt;
 use crate::passes::{FLOW, GATHERS, ROOT, STITCH, WHOLE_FLOW, filter_room};
 use crate::scopes::{knot_scope, root_scope, stitch_scope};
 use crate::structure::{validate_flow_parameter_names, validate_stitch_name};
-use crate::view::{KnotView, StepView};
-use checks::view::{BodyView, FileView, IndexView, StoryView};
+use crate::view::{KnotView, StepView, WholeView};
+use checks::view::{BodyView, IndexView, StoryView};
 use filters::declared::put_declared;
 use filters::view::DeclaredView;
-use items::runs::items_from;
+use items::runs::KeptNumbers;
 use searches::views::{FlowView, StitchView, flow_view, stitch_view};
-use story::Sections;
+use story::{FileView, Sections};
 
 impl KnotView<'_, '_> {
     // Steps 5 and 6, of a flow.
     #[tactic(auto, using(crate::proofs::Runs::purity_found))]
     fn validate_first_steps(&self, gathers: &mut [u8]) -> Option<BreachAt>
-        ensures { let b = self.now.knot.place.body in result ≡ found_runs (kept_story self.now.knot.index.story.source.sections b.file.now) (first_runs (kept_flow b.file.now b.kept.now self.now.flow)) }
+        ensures { let b = self.now.knot.place.body in result ≡ found_runs (kept_story self.now.knot.index.story.source.sections b.file.now) (first_runs (kept_flow b.file.now b.kept.numbers.now self.now.flow)) }
     {
         if let Some(breach) = self.validate_function_purity(gathers) {
             return Some(breach);
@@ -35,7 +35,7 @@ impl KnotView<'_, '_> {
     // Steps 12 to 18, of a stitch.
     fn validate_stitch(&self, w: StitchView, gathers: &mut [u8]) -> Option<BreachAt>
         requires { StitchReady self.now.knot.place.body.file.now w }
-        ensures { let b = self.now.knot.place.body in result ≡ found_runs (kept_story self.now.knot.index.story.source.sections b.file.now) (stitch_runs (kept_flow b.file.now b.kept.now self.now.flow) (kept_stitch b.file.now b.kept.now w)) }
+        ensures { let b = self.now.knot.place.body in result ≡ found_runs (kept_story self.now.knot.index.story.source.sections b.file.now) (stitch_runs (kept_flow b.file.now b.kept.numbers.now self.now.flow) (kept_stitch b.file.now b.kept.numbers.now w)) }
     {
         if let Some(breach) = validate_stitch_name(
             &self.knot.index.story.source,
@@ -61,7 +61,7 @@ impl KnotView<'_, '_> {
 
     // Steps 12 to 18, of the stitches of a flow one after the other.
     fn validate_stitches(&self, gathers: &mut [u8]) -> Option<BreachAt>
-        ensures { let b = self.now.knot.place.body in let f = kept_flow b.file.now b.kept.now self.now.flow in result ≡ found_runs (kept_story self.now.knot.index.story.source.sections b.file.now) (each (stitch_runs f) f.stitches) }
+        ensures { let b = self.now.knot.place.body in let f = kept_flow b.file.now b.kept.numbers.now self.now.flow in result ≡ found_runs (kept_story self.now.knot.index.story.source.sections b.file.now) (each (stitch_runs f) f.stitches) }
     {
         let file = self.knot.place.body.file;
         let end = self.flow.end;
@@ -78,7 +78,7 @@ impl KnotView<'_, '_> {
     // Steps 7 to 19, of a flow, one after the other.
     #[tactic(auto, using(crate::proofs::Runs::own_found, crate::proofs::Runs::stitches_found, crate::proofs::Runs::stitches_passed))]
     fn validate_unclear_flow(&self, gathers: &mut [u8]) -> Option<BreachAt>
-        ensures { let b = self.now.knot.place.body in result ≡ found_runs (kept_story self.now.knot.index.story.source.sections b.file.now) (later_runs (kept_flow b.file.now b.kept.now self.now.flow)) }
+        ensures { let b = self.now.knot.place.body in result ≡ found_runs (kept_story self.now.knot.index.story.source.sections b.file.now) (later_runs (kept_flow b.file.now b.kept.numbers.now self.now.flow)) }
     {
         if let Some(breach) = self.knot.find_in_passes(&FLOW) {
             return Some(breach);
@@ -92,7 +92,7 @@ impl KnotView<'_, '_> {
     // Steps 7 to 19, of a flow and its stitches: where one look finds the body clear of its own steps, the stitches are left.
     #[tactic(auto, using(crate::proofs::Runs::stitches_left))]
     fn validate_later_steps(&self, gathers: &mut [u8]) -> Option<BreachAt>
-        ensures { let b = self.now.knot.place.body in result ≡ found_runs (kept_story self.now.knot.index.story.source.sections b.file.now) (later_runs (kept_flow b.file.now b.kept.now self.now.flow)) }
+        ensures { let b = self.now.knot.place.body in result ≡ found_runs (kept_story self.now.knot.index.story.source.sections b.file.now) (later_runs (kept_flow b.file.now b.kept.numbers.now self.now.flow)) }
     {
         if self.knot.is_clear(&WHOLE_FLOW, gathers) {
             return self.validate_stitches(gathers);
@@ -103,7 +103,7 @@ impl KnotView<'_, '_> {
     // Steps 5 to 19, of a flow and its stitches.
     #[tactic(auto, using(crate::proofs::Runs::first_found, crate::proofs::Runs::first_passed))]
     fn validate_all_steps(&self, gathers: &mut [u8]) -> Option<BreachAt>
-        ensures { let b = self.now.knot.place.body in result ≡ found_runs (kept_story self.now.knot.index.story.source.sections b.file.now) (flow_runs (kept_flow b.file.now b.kept.now self.now.flow)) }
+        ensures { let b = self.now.knot.place.body in result ≡ found_runs (kept_story self.now.knot.index.story.source.sections b.file.now) (flow_runs (kept_flow b.file.now b.kept.numbers.now self.now.flow)) }
     {
         if let Some(breach) = self.validate_first_steps(gathers) {
             return Some(breach);
@@ -115,13 +115,13 @@ impl KnotView<'_, '_> {
 // Steps 5 to 19, of a flow and its stitches. The filter gets the flow's names.
 fn validate_whole_flow<'a>(
     index: &IndexView<'a>,
-    kept: &'a [u32],
+    kept: KeptNumbers<'a>,
     flow: FlowView,
     declared: &mut [u8],
     gathers: &mut [u8],
 ) -> Option<BreachAt>
-    requires { FlowReady index.now.story.source.file.now kept.now flow }
-    ensures { let c = index.now.story.source in result ≡ found_runs (kept_story c.sections c.file.now) (flow_runs (kept_flow c.file.now kept.now flow)) }
+    requires { FlowReady index.now.story.source.file.now kept.numbers.now flow }
+    ensures { let c = index.now.story.source in result ≡ found_runs (kept_story c.sections c.file.now) (flow_runs (kept_flow c.file.now kept.entry.numbers.now flow)) }
 {
     let file = index.story.source.file;
     let scope = knot_scope(flow);
@@ -155,11 +155,11 @@ fn declared_room(v: FlowView, bytes: usize) -> usize
 // Steps 5 to 19, of the flows one after the other.
 fn validate_flows<'a>(
     index: &IndexView<'a>,
-    kept: &'a [u32],
+    kept: KeptNumbers<'a>,
     declared: &mut [u8],
     gathers: &mut [u8],
 ) -> Option<BreachAt>
-    requires { let c = index.now.story.source in FlowsReady c.file.now kept.now c.sections.flows c.sections.end }
+    requires { let c = index.now.story.source in FlowsReady c.file.now kept.numbers.now c.sections.flows c.sections.end }
     ensures { let c = index.now.story.source in result ≡ found_runs (kept_story c.sections c.file.now) (each flow_runs (kept_story c.sections c.file.now).flows) }
 {
     let file = index.story.source.file;
@@ -172,104 +172,100 @@ fn validate_flows<'a>(
             return Some(breach);
         }
         at = v.end;
-        let next = items_from(rest, at);
-        rest = next;
+        rest = rest.items_from(at);
     }
     None
 }
 
-// Steps 1 to 4, at the root. The filter gets the root's labels.
-fn validate_root<'a>(
-    index: &IndexView<'a>,
-    kept: &'a [u32],
-    declared: &mut [u8],
-    gathers: &mut [u8],
-) -> Option<BreachAt>
-    requires { let c = index.now.story.source in Kept c.file.now c.sections kept.now }
-    ensures { let c = index.now.story.source in result ≡ passes_found c.file.now kept.now c.sections (root_view c.sections (length c.file.now)) ROOT }
-{
-    let file = index.story.source.file;
-    let scope = root_scope(index.story.source.sections, file.len());
-    put_declared(file, kept, scope, declared);
-    let body = BodyView { file, kept, scope };
-    let place = DeclaredView {
-        body,
-        filter: declared,
-    };
-    let root = StepView {
-        index: *index,
-        place,
-    };
-    root.validate_passes(&ROOT, gathers)
-}
-
-// Step 20, at the root.
-fn validate_root_gathers<'a>(
-    index: &IndexView<'a>,
-    kept: &'a [u32],
-    gathers: &mut [u8],
-) -> Option<BreachAt>
-    requires { let c = index.now.story.source in Kept c.file.now c.sections kept.now }
-    ensures { let c = index.now.story.source in result ≡ passes_found c.file.now kept.now c.sections (root_view c.sections (length c.file.now)) GATHERS }
-{
-    let file = index.story.source.file;
-    let scope = root_scope(index.story.source.sections, file.len());
-    let body = BodyView { file, kept, scope };
-    let place = DeclaredView {
-        body,
-        filter: &file[..0],
-    };
-    let root = StepView {
-        index: *index,
-        place,
-    };
-    root.validate_passes(&GATHERS, gathers)
-}
-
-// The steps over a story: 1 to 4 at the root, 5 to 19 of each flow, 20 at the root.
-fn validate_steps<'a>(
-    index: &IndexView<'a>,
-    kept: &'a [u32],
-    declared: &mut [u8],
-    gathers: &mut [u8],
-) -> Option<BreachAt>
-    requires { let c = index.now.story.source in Kept c.file.now c.sections kept.now }
-    ensures { let c = index.now.story.source in result ≡ found_of (verdict (story_in c.sections c.file.now)) }
-{
-    let scope = root_scope(index.story.source.sections, index.story.source.file.len());
-    let room = filter_room(scope, declared.len());
-    if let Some(breach) = validate_root(index, kept, &mut declared[..room], gathers) {
-        return Some(breach);
+impl WholeView<'_> {
+    // Steps 1 to 4, at the root. The filter gets the root's labels.
+    fn validate_root(&self, declared: &mut [u8], gathers: &mut [u8]) -> Option<BreachAt>
+        ensures { let c = self.now.index.story.source in result ≡ passes_found c.file.now self.now.kept.numbers.now c.sections (root_view c.sections (length c.file.now)) ROOT }
+    {
+        let index = self.index;
+        let kept = self.kept;
+        let file = index.story.source.file;
+        let scope = root_scope(index.story.source.sections, file.len());
+        put_declared(file, kept, scope, declared);
+        let body = BodyView { file, kept, scope };
+        let place = DeclaredView {
+            body,
+            filter: declared,
+        };
+        let root = StepView { index, place };
+        root.validate_passes(&ROOT, gathers)
     }
-    if let Some(breach) = validate_flows(index, kept, declared, gathers) {
-        return Some(breach);
+
+    // Step 20, at the root.
+    fn validate_root_gathers(&self, gathers: &mut [u8]) -> Option<BreachAt>
+        ensures { let c = self.now.index.story.source in result ≡ passes_found c.file.now self.now.kept.numbers.now c.sections (root_view c.sections (length c.file.now)) GATHERS }
+    {
+        let index = self.index;
+        let kept = self.kept;
+        let file = index.story.source.file;
+        let scope = root_scope(index.story.source.sections, file.len());
+        let body = BodyView { file, kept, scope };
+        let place = DeclaredView {
+            body,
+            filter: &file[..0],
+        };
+        let root = StepView { index, place };
+        root.validate_passes(&GATHERS, gathers)
     }
-    validate_root_gathers(index, kept, gathers)
+
+    // The steps over a story: 1 to 4 at the root, 5 to 19 of each flow, 20 at the root.
+    fn validate_steps(&self, declared: &mut [u8], gathers: &mut [u8]) -> Option<BreachAt>
+        ensures { let c = self.now.index.story.source in result ≡ found_of (verdict (story_in c.sections c.file.now)) }
+    {
+        let source = self.index.story.source;
+        let scope = root_scope(source.sections, source.file.len());
+        let room = filter_room(scope, declared.len());
+        if let Some(breach) = self.validate_root(&mut declared[..room], gathers) {
+            return Some(breach);
+        }
+        if let Some(breach) = validate_flows(&self.index, self.kept, declared, gathers) {
+            return Some(breach);
+        }
+        self.validate_root_gathers(gathers)
+    }
 }
 
-// The twenty steps: 1 to 4 at the root, 5 to 19 of each flow, 20 at the root. The first breach, or none.
+// What is written of a story before its steps: the index, how many entries it has, the functions, and hints into the index.
+#[derive(Clone, Copy)]
+pub struct Tables<'a> {
+    pub index: &'a [u32],
+    pub count: usize,
+    pub functions: &'a [u32],
+    pub hints: &'a [u32],
+}
+
+// THE TWENTY STEPS: 1 to 4 at the root, 5 to 19 of each flow, 20 at the root. The first breach, or none.
 pub fn validate_story<'a>(
     file: &'a [u8],
-    c: Sections,
+    sections: Sections,
     kept: &'a [u32],
-    index: &'a [u32],
-    count: usize,
-    functions: &'a [u32],
-    hints: &'a [u32],
+    tables: Tables<'a>,
     declared: &mut [u8],
     gathers: &mut [u8],
 ) -> Option<BreachAt>
-    requires ready { Ready file.now c index.now count functions.now }
-    requires kept { Kept file.now c kept.now }
-    ensures { result ≡ found_of (verdict (story_in c file.now)) }
+    requires ready { Ready file.now sections tables.index.now tables.count tables.functions.now }
+    requires kept { Kept file.now sections kept.now }
+    ensures { result ≡ found_of (verdict (story_in sections file.now)) }
 {
-    let source = FileView { file, sections: c };
-    let story = StoryView { source, functions };
-    let view = IndexView {
-        story,
-        index,
-        count,
-        hints,
+    let source = FileView { file, sections };
+    let story = StoryView {
+        source,
+        functions: tables.functions,
     };
-    validate_steps(&view, kept, declared, gathers)
+    let index = IndexView {
+        story,
+        index: tables.index,
+        count: tables.count,
+        hints: tables.hints,
+    };
+    let whole = WholeView {
+        index,
+        kept: KeptNumbers { numbers: kept },
+    };
+    whole.validate_steps(declared, gathers)
 }

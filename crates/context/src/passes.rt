@@ -22,7 +22,7 @@ use checks::{ScopeView, Slot};
 use filters::gathers::{check_gather_label, pass_item};
 use filters::words::clear_filter;
 use items::items::{named_at, place_in};
-use items::runs::body_items;
+use items::runs::KeptBody;
 use records::sorts::Sort;
 use rules::Rule;
 
@@ -93,13 +93,18 @@ impl StepView<'_, '_> {
     // The rule of the pass that an item breaks first.
     #[tactic(auto, unfolding(crate::specs::Found::rules_of))]
     fn judge(&self, pass: Pass, slot: Slot, gathers: &[u8]) -> Option<Rule>
-        requires { let b = self.now.place.body in Gathered b.file.now b.kept.now b.scope.from b.scope.to slot.number gathers.now }
-        ensures { let b = self.now.place.body in let c = self.now.index.story.source.sections in result ≡ judged_by (known_in c b.file.now) (here_at b.file.now b.kept.now b.scope) (rules_of pass) (take slot.number (whats (kept_in b.file.now b.kept.now b.scope.from b.scope.to))) (what_at b.file.now slot) }
+        requires { let b = self.now.place.body in Gathered b.file.now b.kept.numbers.now b.scope.from b.scope.to slot.number gathers.now }
+        ensures { let b = self.now.place.body in let c = self.now.index.story.source.sections in result ≡ judged_by (known_in c b.file.now) (here_at b.file.now b.kept.numbers.now b.scope) (rules_of pass) (take slot.number (whats (kept_in b.file.now b.kept.numbers.now b.scope.from b.scope.to))) (what_at b.file.now slot) }
     {
         let item = slot.item;
         let file = self.place.body.file;
-        let kept = self.place.body.kept;
         let scope = self.place.body.scope;
+        let body = KeptBody {
+            file,
+            kept: self.place.body.kept,
+            from: scope.from,
+            to: scope.to,
+        };
         match pass {
             Pass::Temps => self.place.validate_temp_name(&self.index.story, item),
             Pass::Targets => self.index.validate_node_divert(item),
@@ -107,15 +112,15 @@ impl StepView<'_, '_> {
             Pass::Choices => check_no_direct_choice_in_branch(item),
             Pass::VariableDiverts => validate_node_variable_divert_target(file, scope, item),
             Pass::Variables => self.place.validate_node_vars(item),
-            Pass::Gathers => check_gather_label(file, kept, scope.from, scope.to, slot, gathers),
+            Pass::Gathers => check_gather_label(&body, slot, gathers),
             Pass::Purity => check_function_body_purity(file, item),
         }
     }
 
     // The rule of the pass that an item breaks first, which is judged only where the pass is concerned.
     fn judge_item(&self, pass: Pass, slot: Slot, gathers: &[u8]) -> Option<Rule>
-        requires { let b = self.now.place.body in Gathered b.file.now b.kept.now b.scope.from b.scope.to slot.number gathers.now }
-        ensures { let b = self.now.place.body in let c = self.now.index.story.source.sections in result ≡ judged_by (known_in c b.file.now) (here_at b.file.now b.kept.now b.scope) (rules_of pass) (take slot.number (whats (kept_in b.file.now b.kept.now b.scope.from b.scope.to))) (what_at b.file.now slot) }
+        requires { let b = self.now.place.body in Gathered b.file.now b.kept.numbers.now b.scope.from b.scope.to slot.number gathers.now }
+        ensures { let b = self.now.place.body in let c = self.now.index.story.source.sections in result ≡ judged_by (known_in c b.file.now) (here_at b.file.now b.kept.numbers.now b.scope) (rules_of pass) (take slot.number (whats (kept_in b.file.now b.kept.numbers.now b.scope.from b.scope.to))) (what_at b.file.now slot) }
     {
         if is_concerned(pass, slot.item) {
             return self.judge(pass, slot, gathers);
@@ -125,10 +130,10 @@ impl StepView<'_, '_> {
 
     // The first breach of a pass along the body.
     fn validate_nodes(&self, pass: Pass) -> Option<BreachAt>
-        ensures { let b = self.now.place.body in let c = self.now.index.story.source.sections in result ≡ found_along (known_in c b.file.now) (here_at b.file.now b.kept.now b.scope) b.scope.flow (rules_of pass) [] (kept_in b.file.now b.kept.now b.scope.from b.scope.to) }
+        ensures { let b = self.now.place.body in let c = self.now.index.story.source.sections in result ≡ found_along (known_in c b.file.now) (here_at b.file.now b.kept.numbers.now b.scope) b.scope.flow (rules_of pass) [] (kept_in b.file.now b.kept.numbers.now b.scope.from b.scope.to) }
     {
         let scope = self.place.body.scope;
-        let items = body_items(self.place.body.kept, scope.from, scope.to);
+        let items = self.place.body.kept.body_items(scope.from, scope.to);
         for (i, &item) in items.iter().enumerate() {
             if let Some(rule) = self.judge(pass, Slot { number: i, item }, &[]) {
                 return Some(breach_at(rule, place_in(item), scope.flow, named_at(item)));
@@ -140,8 +145,8 @@ impl StepView<'_, '_> {
     // The item breaks no rule of the passes.
     #[tactic(auto, using(crate::proofs::Clear::passing_start, crate::proofs::Clear::passing_end, crate::proofs::Clear::passing_next, crate::proofs::Clear::passing_broken))]
     fn is_item_clear(&self, passes: &[Pass], slot: Slot, gathers: &[u8]) -> bool
-        requires { let b = self.now.place.body in Gathered b.file.now b.kept.now b.scope.from b.scope.to slot.number gathers.now }
-        ensures { let b = self.now.place.body in let c = self.now.index.story.source.sections in result ≡ clear_at (known_in c b.file.now) (here_at b.file.now b.kept.now b.scope) passes.now (take slot.number (whats (kept_in b.file.now b.kept.now b.scope.from b.scope.to))) (what_at b.file.now slot) }
+        requires { let b = self.now.place.body in Gathered b.file.now b.kept.numbers.now b.scope.from b.scope.to slot.number gathers.now }
+        ensures { let b = self.now.place.body in let c = self.now.index.story.source.sections in result ≡ clear_at (known_in c b.file.now) (here_at b.file.now b.kept.numbers.now b.scope) passes.now (take slot.number (whats (kept_in b.file.now b.kept.numbers.now b.scope.from b.scope.to))) (what_at b.file.now slot) }
     {
         for &pass in passes {
             if let Some(_) = self.judge_item(pass, slot, gathers) {
@@ -153,12 +158,12 @@ impl StepView<'_, '_> {
 
     // No item of the body breaks a rule of the passes.
     fn is_body_clear(&self, passes: &[Pass], gathers: &mut [u8]) -> bool
-        ensures { let b = self.now.place.body in result ≡ passes_clear b.file.now b.kept.now self.now.index.story.source.sections b.scope passes.now }
+        ensures { let b = self.now.place.body in result ≡ passes_clear b.file.now b.kept.numbers.now self.now.index.story.source.sections b.scope passes.now }
     {
         clear_filter(gathers);
         let file = self.place.body.file;
         let scope = self.place.body.scope;
-        let items = body_items(self.place.body.kept, scope.from, scope.to);
+        let items = self.place.body.kept.body_items(scope.from, scope.to);
         for (i, &item) in items.iter().enumerate() {
             if !self.is_item_clear(passes, Slot { number: i, item }, gathers) {
                 return false;
@@ -170,7 +175,7 @@ impl StepView<'_, '_> {
 
     // No item of the body breaks a rule of the passes, as one look at each item finds.
     pub fn is_clear(&self, passes: &[Pass], gathers: &mut [u8]) -> bool
-        ensures { let b = self.now.place.body in result ≡ passes_clear b.file.now b.kept.now self.now.index.story.source.sections b.scope passes.now }
+        ensures { let b = self.now.place.body in result ≡ passes_clear b.file.now b.kept.numbers.now self.now.index.story.source.sections b.scope passes.now }
     {
         let room = filter_room(self.place.body.scope, gathers.len());
         self.is_body_clear(passes, &mut gathers[..room])
@@ -179,7 +184,7 @@ impl StepView<'_, '_> {
     // The first breach of the passes, one pass after the other along the same body.
     #[tactic(auto, using(crate::proofs::Walks::quiet_start, crate::proofs::Walks::quiet_end, crate::proofs::Walks::quiet_next))]
     pub fn find_in_passes(&self, passes: &[Pass]) -> Option<BreachAt>
-        ensures { let b = self.now.place.body in result ≡ passes_found b.file.now b.kept.now self.now.index.story.source.sections b.scope passes.now }
+        ensures { let b = self.now.place.body in result ≡ passes_found b.file.now b.kept.numbers.now self.now.index.story.source.sections b.scope passes.now }
     {
         for &pass in passes {
             if let Some(breach) = self.validate_nodes(pass) {
@@ -192,7 +197,7 @@ impl StepView<'_, '_> {
     // The first breach of the passes along the same body; none where one look at each item finds none.
     #[tactic(auto, using(crate::proofs::Clear::clear_passes))]
     pub fn validate_passes(&self, passes: &[Pass], gathers: &mut [u8]) -> Option<BreachAt>
-        ensures { let b = self.now.place.body in result ≡ passes_found b.file.now b.kept.now self.now.index.story.source.sections b.scope passes.now }
+        ensures { let b = self.now.place.body in result ≡ passes_found b.file.now b.kept.numbers.now self.now.index.story.source.sections b.scope passes.now }
     {
         if self.is_clear(passes, gathers) {
             return None;

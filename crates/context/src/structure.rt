@@ -14,28 +14,26 @@ use crate::BreachAt;
 use crate::breaches::breach_at;
 use crate::passes::PURITY;
 use crate::view::KnotView;
-use checks::view::{FileView, StoryView};
+use checks::structure::check_stitch_name;
+use checks::view::StoryView;
 use names::name_at;
 use rules::Rule;
 use searches::views::stitch_view;
+use story::FileView;
 
 // The flow has stitches.
 fn has_stitches(file: &[u8], at: usize, end: usize) -> bool
     requires { StitchesReady file.now at end }
     ensures { result ≡ any (λ (t : Stitch). true) (kept_stitches file.now at end) }
 {
-    let view = stitch_view(file, at, end);
-    match view {
-        Some(_) => true,
-        None => false,
-    }
+    stitch_view(file, at, end).is_some()
 }
 
 impl KnotView<'_, '_> {
     // Step 5, of a flow that is a function: rule 12 at its first byte, then rules 13 and 14 along its body.
     #[tactic(auto, using(crate::proofs::Runs::purity_stitched, crate::proofs::Runs::purity_body, crate::proofs::Runs::purity_skipped))]
     pub fn validate_function_purity(&self, gathers: &mut [u8]) -> Option<BreachAt>
-        ensures { let b = self.now.knot.place.body in let f = kept_flow b.file.now b.kept.now self.now.flow in result ≡ found_runs (kept_story self.now.knot.index.story.source.sections b.file.now) (over (knot f) (purity_items self.now.flow.function f) (s5 ∷ [])) }
+        ensures { let b = self.now.knot.place.body in let f = kept_flow b.file.now b.kept.numbers.now self.now.flow in result ≡ found_runs (kept_story self.now.knot.index.story.source.sections b.file.now) (over (knot f) (purity_items self.now.flow.function f) (s5 ∷ [])) }
     {
         let v = self.flow;
         if v.function {
@@ -76,7 +74,7 @@ pub fn validate_flow_parameter_names(
 pub fn validate_stitch_name(source: &FileView<'_>, flow: usize, name: usize) -> Option<BreachAt>
     ensures { (h : Here) → result ≡ stitch_name_found source.now.file.now source.now.sections h flow name }
 {
-    match source.check_stitch_name(name_at(source.file, name)) {
+    match check_stitch_name(source, name_at(source.file, name)) {
         Some(rule) => Some(breach_at(rule, name, flow, name)),
         None => None,
     }

@@ -3,7 +3,6 @@ ghost use Rattle.std.specs.Prelude.{◌≡◌, refl};
 ghost use Rattle.std.proofs.Common.{◌∙◌};
 ghost use Rattle.names.specs.Words.{any};
 ghost use Rattle.story.specs.File.{story_in};
-ghost use Rattle.items.specs.Bodies.{Kept};
 ghost use Rattle.symbols.specs.Index.{entries, spellings};
 ghost use Rattle.symbols.specs.Numbers.{st};
 ghost use Rattle.enumerator.specs.Numbers.{store_all};
@@ -17,7 +16,7 @@ ghost use Rattle.enumerator.specs.Entered.{Entered};
 
 use crate::Seen;
 use crate::visits::visit_entry;
-use story::Sections;
+use items::files::KeptFile;
 use symbols::Places;
 use symbols::entries::visit_entries;
 use symbols::visits::Visit;
@@ -54,33 +53,29 @@ impl<'a> Visit for Outputs<'a> {
 
 // Visits THE ENTRIES of a readable file by its kept numbers: globals, labels of the root, flows.
 pub fn enumerate(
-    file: &[u8],
-    c: Sections,
-    kept: &[u32],
+    story: &KeptFile<'_>,
     target: &[u8],
     index: &mut [u32],
     set: &mut [u64],
     seen: Seen,
 ) -> Seen
-    requires kept { Kept file.now c kept.now }
-    requires count_value { (seen.count ≡ 0) × Reachable (end_slots file.now) set.old }
-    ensures { Visited file.now target.now (placed (entries (story_in c file.now))) index.old set.old seen index.new set.new result }
+    requires { (seen.count ≡ 0) × Reachable (end_slots story.now.file.now) set.old }
+    ensures { Visited story.now.file.now target.now (placed (entries (story_in story.now.sections story.now.file.now))) index.old set.old seen index.new set.new result }
 {
     let mut outputs = Outputs {
-        file,
+        file: story.file,
         target,
         index,
         set,
         seen,
     };
-    visit_entries(file, c, kept, &mut outputs);
+    visit_entries(story, &mut outputs);
     outputs.seen
 }
 
 // Writes the index of a readable file by its kept numbers; the entry count.
-pub fn write_index(file: &[u8], c: Sections, kept: &[u32], index: &mut [u32]) -> usize
-    requires { Kept file.now c kept.now }
-    ensures { st index.new result ≡ store_all (st index.old 0) (placed (entries (story_in c file.now))) }
+pub fn write_index(story: &KeptFile<'_>, index: &mut [u32]) -> usize
+    ensures { st index.new result ≡ store_all (st index.old 0) (placed (entries (story_in story.now.sections story.now.file.now))) }
 {
     let mut set = [0u64; 1];
     let seen = Seen {
@@ -88,20 +83,13 @@ pub fn write_index(file: &[u8], c: Sections, kept: &[u32], index: &mut [u32]) ->
         left: true,
         found: true,
     };
-    let met = enumerate(file, c, kept, file, index, &mut set[..0], seen);
+    let met = enumerate(story, story.file, index, &mut set[..0], seen);
     met.count
 }
 
 // Writes the index of a readable file by its kept numbers, as far as there is room, and puts the targets of its entries into the set.
-pub fn write_entries(
-    file: &[u8],
-    c: Sections,
-    kept: &[u32],
-    index: &mut [u32],
-    set: &mut [u64],
-) -> Seen
-    requires { Kept file.now c kept.now }
-    ensures { Entered file.now c index.old index.new set.new result }
+pub fn write_entries(story: &KeptFile<'_>, index: &mut [u32], set: &mut [u64]) -> Seen
+    ensures { Entered story.now.file.now story.now.sections index.old index.new set.new result }
 {
     clear(set);
     let seen = Seen {
@@ -109,13 +97,12 @@ pub fn write_entries(
         left: false,
         found: true,
     };
-    enumerate(file, c, kept, file, index, set, seen)
+    enumerate(story, story.file, index, set, seen)
 }
 
 // Some entry of a readable file answers the target.
-pub fn has_target(file: &[u8], c: Sections, kept: &[u32], target: &[u8]) -> bool
-    requires { Kept file.now c kept.now }
-    ensures { result ≡ any (answers target.now) (spellings (story_in c file.now)) }
+pub fn has_target(story: &KeptFile<'_>, target: &[u8]) -> bool
+    ensures { result ≡ any (answers target.now) (spellings (story_in story.now.sections story.now.file.now)) }
 {
     let mut index = [0u32; 1];
     let mut set = [0u64; 1];
@@ -124,6 +111,6 @@ pub fn has_target(file: &[u8], c: Sections, kept: &[u32], target: &[u8]) -> bool
         left: true,
         found: false,
     };
-    let met = enumerate(file, c, kept, target, &mut index[..0], &mut set[..0], seen);
+    let met = enumerate(story, target, &mut index[..0], &mut set[..0], seen);
     met.found
 }

@@ -2,7 +2,6 @@
 ghost use Rattle.std.specs.Prelude.{◌≡◌, List, ◌≤◌, length};
 ghost use Rattle.records.specs.Items.{What};
 ghost use Rattle.records.specs.Numbers.{item_in};
-ghost use Rattle.items.specs.Bodies.{Rising};
 ghost use Rattle.rules.specs.Rules.{Known};
 ghost use Rattle.rules.specs.Steps.{bracket, Step};
 ghost use Rattle.checks.specs.Judged.{judged_by};
@@ -17,57 +16,54 @@ use crate::words::{add_counted, add_items, clear_filter, lacks_word};
 use checks::ScopeView;
 use checks::structure::is_sort;
 use items::items::item_name;
-use items::runs::body_items;
+use items::runs::{KeptBody, KeptNumbers};
 use records::sorts::Sort;
 use rules::Rule;
 
 // Empties the filter, and adds the parameters and the temps of the body. One without slots stays.
 #[tactic(auto, using(crate::proofs::Covering::covers_none, crate::proofs::Bodies::names_put))]
-fn put_names(file: &[u8], kept: &[u32], params: usize, from: usize, to: usize, filter: &mut [u8])
-    requires params_in_bounds { params ≤ length file.now }
-    requires rising { Rising kept.now }
-    ensures { Covers filter.new (declared_at file.now kept.now params from to) }
+fn put_names(body: &KeptBody<'_>, params: usize, filter: &mut [u8])
+    requires { params ≤ length body.now.file.now }
+    ensures { Covers filter.new (declared_at body.now.file.now body.now.kept.numbers.now params body.now.from body.now.to) }
 {
     if filter.len() == 0 {
         return;
     }
+    let file = body.file;
     clear_filter(filter);
     add_counted(filter, &file[params..]);
-    add_items(
-        filter,
-        Wanted::Sort(Sort::Temp),
-        file,
-        body_items(kept, from, to),
-    );
+    add_items(filter, Wanted::Sort(Sort::Temp), file, body.items());
 }
 
 // The first part gets the parameters and the temps of the knot's body, the second its labels and those of the stitches after it.
 // What the filter had before would only cost searches. One without slots stays.
-pub fn put_declared(file: &[u8], kept: &[u32], scope: ScopeView, filter: &mut [u8])
-    requires params_in_bounds { scope.outer ≤ length file.now }
-    requires rising { Rising kept.now }
-    ensures { Declared file.now kept.now scope.outer scope.body scope.stitches scope.end filter.new }
+pub fn put_declared(file: &[u8], kept: KeptNumbers<'_>, scope: ScopeView, filter: &mut [u8])
+    requires { scope.outer ≤ length file.now }
+    ensures { Declared file.now kept.entry.numbers.now scope.outer scope.body scope.stitches scope.end filter.new }
 {
     if filter.len() == 0 {
         return;
     }
     let split = split_at(filter.len(), scope.stitches, scope.end);
-    put_names(
+    let own = KeptBody {
         file,
         kept,
-        scope.outer,
-        scope.body,
-        scope.stitches,
-        &mut filter[..split],
-    );
-    put_labels(file, kept, scope.body, scope.end, &mut filter[split..]);
+        from: scope.body,
+        to: scope.stitches,
+    };
+    put_names(&own, scope.outer, &mut filter[..split]);
+    let whole = KeptBody {
+        to: scope.end,
+        ..own
+    };
+    put_labels(&whole, &mut filter[split..]);
 }
 
 impl DeclaredView<'_, '_> {
     // The name is forbidden in the stitch: its knot declares it, and it does not. Not searched for where the filter's first part lacks it.
     #[tactic(auto, using(crate::proofs::Bodies::not_forbidden))]
     pub fn is_forbidden_in(&self, name: &[u8]) -> bool
-        ensures { result ≡ (here_at self.now.body.file.now self.now.body.kept.now self.now.body.scope).forbidden name.now }
+        ensures { result ≡ (here_at self.now.body.file.now self.now.body.kept.numbers.now self.now.body.scope).forbidden name.now }
     {
         let scope = self.body.scope;
         let split = split_at(self.filter.len(), scope.stitches, scope.end);
@@ -77,7 +73,7 @@ impl DeclaredView<'_, '_> {
     // The name of an item that is a variable: rule 15. The filter has what the knot declares.
     #[tactic(auto, using(checks::proofs::Cases::variables_judged))]
     pub fn validate_node_vars(&self, item: u32) -> Option<Rule>
-        ensures { (k : Known) (before : List What) → result ≡ judged_by k (here_at self.now.body.file.now self.now.body.kept.now self.now.body.scope) (bracket Step.s17) before (item_in self.now.body.file.now item).what }
+        ensures { (k : Known) (before : List What) → result ≡ judged_by k (here_at self.now.body.file.now self.now.body.kept.numbers.now self.now.body.scope) (bracket Step.s17) before (item_in self.now.body.file.now item).what }
     {
         if is_sort(item, Sort::Variable) && self.is_forbidden_in(item_name(self.body.file, item)) {
             return Some(Rule::VariableForbidden);

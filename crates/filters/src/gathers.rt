@@ -2,7 +2,7 @@
 ghost use Rattle.std.specs.Prelude.{◌≡◌, take};
 ghost use Rattle.story.specs.Story.{whats};
 ghost use Rattle.records.specs.Numbers.{item_in};
-ghost use Rattle.items.specs.Bodies.{kept_in, Rising};
+ghost use Rattle.items.specs.Bodies.{kept_in};
 ghost use Rattle.items.specs.Search.{gather_among};
 ghost use Rattle.rules.specs.Rules.{Known, Here};
 ghost use Rattle.rules.specs.Steps.{gathers};
@@ -16,7 +16,7 @@ use checks::Slot;
 use checks::structure::is_sort;
 use items::items::item_name;
 use items::named::has_gather_before;
-use items::runs::body_items;
+use items::runs::KeptBody;
 use records::sorts::Sort;
 use rules::Rule;
 
@@ -30,39 +30,22 @@ pub fn pass_item(file: &[u8], item: u32, filter: &mut [u8])
 
 // The name is the label of a gather before item number i of the body. Not searched for where the filter lacks it.
 #[tactic(auto, using(crate::proofs::Bodies::no_gather))]
-pub fn has_gather_in(
-    file: &[u8],
-    kept: &[u32],
-    from: usize,
-    to: usize,
-    i: usize,
-    filter: &[u8],
-    name: &[u8],
-) -> bool
-    requires rising { Rising kept.now }
-    requires gathered { Gathered file.now kept.now from to i filter.now }
-    ensures { result ≡ gather_among (take i (whats (kept_in file.now kept.now from to))) name.now }
+pub fn has_gather_in(body: &KeptBody<'_>, i: usize, filter: &[u8], name: &[u8]) -> bool
+    requires { Gathered body.now.file.now body.now.kept.numbers.now body.now.from body.now.to i filter.now }
+    ensures { result ≡ gather_among (take i (whats (kept_in body.now.file.now body.now.kept.numbers.now body.now.from body.now.to))) name.now }
 {
-    !lacks_word(filter, name) && has_gather_before(file, body_items(kept, from, to), i, name)
+    !lacks_word(filter, name) && has_gather_before(body.file, body.items(), i, name)
 }
 
-// The label of an item that is a gather, in the body from..to: rule 10. The filter has the gathers before it.
+// The label of an item that is a gather, in the body: rule 10. The filter has the gathers before it.
 #[tactic(auto, using(checks::proofs::Cases::gathers_judged))]
-pub fn check_gather_label(
-    file: &[u8],
-    kept: &[u32],
-    from: usize,
-    to: usize,
-    slot: Slot,
-    filter: &[u8],
-) -> Option<Rule>
-    requires rising { Rising kept.now }
-    requires gathered { Gathered file.now kept.now from to slot.number filter.now }
-    ensures { (k : Known) (h : Here) → result ≡ judged_by k h gathers (take slot.number (whats (kept_in file.now kept.now from to))) (what_at file.now slot) }
+pub fn check_gather_label(body: &KeptBody<'_>, slot: Slot, filter: &[u8]) -> Option<Rule>
+    requires { Gathered body.now.file.now body.now.kept.numbers.now body.now.from body.now.to slot.number filter.now }
+    ensures { (k : Known) (h : Here) → result ≡ judged_by k h gathers (take slot.number (whats (kept_in body.now.file.now body.now.kept.numbers.now body.now.from body.now.to))) (what_at body.now.file.now slot) }
 {
     if is_sort(slot.item, Sort::Gather) {
-        let name = item_name(file, slot.item);
-        if has_gather_in(file, kept, from, to, slot.number, filter, name) {
+        let name = item_name(body.file, slot.item);
+        if has_gather_in(body, slot.number, filter, name) {
             return Some(Rule::GatherRepeated);
         }
     }

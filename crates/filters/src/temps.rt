@@ -18,7 +18,7 @@ impl DeclaredView<'_, '_> {
     // A temp's name: rules 4, 6 and 7.
     #[tactic(auto, unfolding(checks::specs::Context::here_at))]
     fn check_temp_name(&self, story: &StoryView<'_>, name: &[u8]) -> Option<Rule>
-        ensures { result ≡ temp_judged (known_in story.now.source.sections story.now.source.file.now) (here_at self.now.body.file.now self.now.body.kept.now self.now.body.scope) name.now }
+        ensures { result ≡ temp_judged (known_in story.now.source.sections story.now.source.file.now) (here_at self.now.body.file.now self.now.body.kept.numbers.now self.now.body.scope) name.now }
     {
         if story.is_function(name) {
             return Some(Rule::NameIsFunction);
@@ -35,7 +35,7 @@ impl DeclaredView<'_, '_> {
     // The name of an item that is a temp: rules 4, 6 and 7.
     #[tactic(auto, using(checks::proofs::Recorded::temps_at))]
     pub fn validate_temp_name(&self, story: &StoryView<'_>, item: u32) -> Option<Rule>
-        ensures { (before : List What) → result ≡ judged_by (known_in story.now.source.sections story.now.source.file.now) (here_at self.now.body.file.now self.now.body.kept.now self.now.body.scope) temps before (item_in self.now.body.file.now item).what }
+        ensures { (before : List What) → result ≡ judged_by (known_in story.now.source.sections story.now.source.file.now) (here_at self.now.body.file.now self.now.body.kept.numbers.now self.now.body.scope) temps before (item_in self.now.body.file.now item).what }
     {
         if is_sort(item, Sort::Temp) {
             return self.check_temp_name(story, item_name(self.body.file, item));

@@ -8,5 +8,5 @@ use checks::view::BodyView;
 pub struct DeclaredView<'a, 'd> {
     pub body: BodyView<'a>,
     pub filter: &'d [u8],
-    pub ghost covers: { Declared body.file.now body.kept.now body.scope.outer body.scope.body body.scope.stitches body.scope.end filter.now },
+    pub ghost covers: { Declared body.file.now body.kept.numbers.now body.scope.outer body.scope.body body.scope.stitches body.scope.end filter.now },
 }

@@ -1,5 +1,6 @@
 -- Inner contract. The items of a body, a flow and a stitch, by the numbers that were kept of them. Assumes nothing.
-use Rattle.std.specs.Prelude.{ℕ, ◌≤◌, ◌≡◌, List, map, length, drop, Ok}
+use Rattle.std.specs.Prelude.{ℕ, ◌≤◌, ◌≡◌, List, [], ◌∷◌, map, length, drop, Ok}
+use Rattle.std.specs.Coded.{×_prop, Π_prop, →_prop, Unit-prop, le_prop}
 use Rattle.names.specs.Words.{Sorted, each}
 use Rattle.names.specs.Counted.{name_at}
 use Rattle.story.specs.declared.Sections.{Sections}
@@ -37,6 +38,15 @@ NotAfter x y = place_in x ≤ place_in y
 -- the places of the numbers never fall
 abbrev pub Rising : List ℕ → Type 0
 Rising kept = Sorted NotAfter kept
+
+-- a list is sorted in one way at most
+sorted_prop : {A : Type 0} {R : A → A → Type 0} → ((x y : A) → IsProp (R x y)) → (xs : List A) → IsProp (Sorted R xs)
+sorted_prop p [] = Unit-prop
+sorted_prop p (x ∷ xs) = ×_prop (Π_prop (λ y. →_prop (p x y))) (sorted_prop p xs)
+
+-- numbers rise in one way at most
+pub rising_prop : (kept : List ℕ) → IsProp (Rising kept)
+rising_prop kept = sorted_prop (λ x y. le_prop) kept
 
 -- the story of the file without its plain items, which the kept numbers tell
 abbrev pub kept_story : Sections → List ℕ → Story

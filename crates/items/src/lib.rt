@@ -1,6 +1,7 @@
 // The kept items of a story: what each is, those of a body, and the searches in them.
 #![tactic(auto)]
 
+pub mod files;
 pub mod items;
 pub mod named;
 pub mod runs;

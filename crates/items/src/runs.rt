@@ -1,7 +1,7 @@
 // The items of a body: the run of the kept numbers from one place to another.
 ghost use Rattle.std.specs.Prelude.{◌≡◌, ◌≤◌, ◌<◌, length};
 ghost use Rattle.records.specs.Numbers.{between};
-ghost use Rattle.items.specs.Bodies.{Rising};
+ghost use Rattle.items.specs.Bodies.{Rising, rising_prop};
 ghost use Rattle.items.specs.Runs.{number_before, numbers_from};
 
 use crate::items::place_in;
@@ -18,38 +18,65 @@ fn probe(low: usize, high: usize) -> usize
     low + half
 }
 
-// How many of the numbers have a place before this one: found in steps that double, and then by halves, since places rise.
-pub fn count_before(kept: &[u32], place: usize) -> usize
-    requires { Rising kept.now }
-    ensures { (result ≡ number_before place kept.now) × (result ≤ length kept.now) }
-{
-    let mut low = 0;
-    let mut high = kept.len();
-    while low < high {
-        let slot = probe(low, high);
-        if place_in(kept[slot]) < place {
-            low = slot + 1;
-        } else {
-            high = slot;
+// Kept numbers, whose places never fall.
+#[derive(Clone, Copy)]
+pub struct KeptNumbers<'a> {
+    pub numbers: &'a [u32],
+    pub ghost rising: { Rising numbers.now } by { rising_prop numbers.now },
+}
+
+impl<'a> KeptNumbers<'a> {
+    // How many of the numbers have a place before this one: found in steps that double, and then by halves, since places rise.
+    pub fn count_before(self, place: usize) -> usize
+        ensures { (result ≡ number_before place self.entry.numbers.now) × (result ≤ length self.entry.numbers.now) }
+    {
+        let mut low = 0;
+        let mut high = self.numbers.len();
+        while low < high {
+            let slot = probe(low, high);
+            if place_in(self.numbers[slot]) < place {
+                low = slot + 1;
+            } else {
+                high = slot;
+            }
+        }
+        low
+    }
+
+    // The numbers of the items from the place on.
+    pub fn items_from(self, place: usize) -> KeptNumbers<'a>
+        ensures { result.numbers.now ≡ numbers_from place self.entry.numbers.now }
+    {
+        let before = self.count_before(place);
+        KeptNumbers {
+            numbers: &self.numbers[before..],
         }
     }
-    low
+
+    // The numbers of the items from the one place to the other.
+    pub fn body_items(self, from: usize, to: usize) -> &'a [u32]
+        ensures { result.now ≡ between from to self.entry.numbers.now }
+    {
+        let rest = self.items_from(from);
+        let end = rest.count_before(to);
+        &rest.numbers[..end]
+    }
 }
 
-// The numbers of the items from the place on.
-pub fn items_from<'a>(kept: &'a [u32], place: usize) -> &'a [u32]
-    requires { Rising kept.now }
-    ensures { result.now ≡ numbers_from place kept.now }
-{
-    &kept[count_before(kept, place)..]
+// A body of a file: its items are those from the one place to the other.
+#[derive(Clone, Copy)]
+pub struct KeptBody<'a> {
+    pub file: &'a [u8],
+    pub kept: KeptNumbers<'a>,
+    pub from: usize,
+    pub to: usize,
 }
 
-// The numbers of the items from the one place to the other.
-pub fn body_items<'a>(kept: &'a [u32], from: usize, to: usize) -> &'a [u32]
-    requires { Rising kept.now }
-    ensures { result.now ≡ between from to kept.now }
-{
-    let rest = items_from(kept, from);
-    let end = count_before(rest, to);
-    &rest[..end]
+impl<'a> KeptBody<'a> {
+    // The numbers of its items.
+    pub fn items(self) -> &'a [u32]
+        ensures { result.now ≡ between self.entry.from self.entry.to self.entry.kept.numbers.now }
+    {
+        self.kept.body_items(self.from, self.to)
+    }
 }

@@ -1,19 +1,10 @@
 // Builds stories at the limits in a buffer, checks each, and writes its line and its number of entries.
 #![tactic(auto)]
 
-use builder::{Builder, Starts};
+use builder::{Builder, Kind, Starts};
 use lines::check_line;
 use std::io;
 use validator::Verdict;
-
-// The kind bytes of an output, a divert, a gather label and a call.
-const OUTPUT: u8 = 2;
-
-const DIVERT: u8 = 3;
-
-const GATHER: u8 = 15;
-
-const CALL: u8 = 16;
 
 // The name of the knot, and one that no story here has.
 const KNOT: &[u8] = b"k";
@@ -86,7 +77,7 @@ fn diverts(globals: usize, many: usize, last: &'static [u8]) -> Story {
 // Puts so many diverts to the knot.
 fn put_diverts(file: &mut Builder, many: usize) {
     for _ in 0..many {
-        file.named(DIVERT, KNOT);
+        file.named(Kind::Divert.byte(), KNOT);
     }
 }
 
@@ -96,7 +87,7 @@ fn put_named_list(file: &mut Builder, name: &[u8], many: usize, last: &[u8]) {
     file.zeros(2);
     file.sized(|file| {
         put_diverts(file, many);
-        file.named(DIVERT, last);
+        file.named(Kind::Divert.byte(), last);
     });
 }
 
@@ -120,16 +111,16 @@ fn put_front(file: &mut Builder, story: Story) -> Starts {
         Story::Diverts { many, .. } => put_diverts(file, many),
         Story::Calls(many) => {
             for _ in 0..many {
-                file.named(CALL, b"");
+                file.named(Kind::Call.byte(), b"");
             }
         }
         Story::Nested(negations) => {
-            file.head(OUTPUT, 5 * negations as usize + 5);
+            file.head(Kind::Output.byte(), 5 * negations as usize + 5);
             file.negations(negations as usize);
         }
         Story::Gathers => {
-            file.named(GATHER, b"a");
-            file.named(GATHER, b"a");
+            file.named(Kind::Gather.byte(), b"a");
+            file.named(Kind::Gather.byte(), b"a");
         }
         Story::Globals(_) => {}
     }

@@ -1,14 +1,5 @@
 // Stories put together in a lent buffer.
-use builder::{Builder, Starts};
-
-// The kind bytes of an output, a divert, a choice and a gather label.
-const OUTPUT: u8 = 2;
-
-const DIVERT: u8 = 3;
-
-const CHOICE: u8 = 14;
-
-const GATHER: u8 = 15;
+use builder::{Builder, Kind, Starts};
 
 // What is spelled in a flow or a stitch: its name, its parameter and its label.
 #[derive(Clone, Copy)]
@@ -20,7 +11,7 @@ struct Spelled<'a> {
 
 // Puts a labelled choice without conditions and nodes.
 fn put_choice(file: &mut Builder, label: &[u8]) {
-    file.byte(CHOICE);
+    file.byte(Kind::Choice.byte());
     file.sized(|file| {
         file.byte(1);
         file.name(label);
@@ -46,7 +37,7 @@ fn put_title(file: &mut Builder, name: &[u8], param: Option<&[u8]>) {
 fn put_stitch(file: &mut Builder, spelled: Spelled) {
     file.sized(|file| {
         put_title(file, spelled.name, spelled.param);
-        file.sized(|file| file.named(GATHER, spelled.label));
+        file.sized(|file| file.named(Kind::Gather.byte(), spelled.label));
     });
 }
 
@@ -115,8 +106,8 @@ pub fn put_story(file: &mut Builder, long: &[u8]) {
     let externals = file.end();
     file.name(b"e");
     let root = file.end();
-    file.named(GATHER, b"r");
-    file.named(DIVERT, b"nowhere");
+    file.named(Kind::Gather.byte(), b"r");
+    file.named(Kind::Divert.byte(), b"nowhere");
     let flows = file.end();
     put_flows(file);
     file.trailer(Starts {
@@ -179,7 +170,7 @@ pub fn put_unknown(file: &mut Builder) {
 
 // Puts a story whose root is an output that holds 63 Negates around a constant.
 pub fn put_deep(file: &mut Builder) {
-    file.head(OUTPUT, 320);
+    file.head(Kind::Output.byte(), 320);
     file.negations(63);
     put_root_end(file);
 }

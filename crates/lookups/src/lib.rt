@@ -3,17 +3,18 @@
 
 ghost use Rattle.std.specs.Prelude.{◌≡◌, ◌∷◌, ◌≤◌, ◌*◌, length};
 ghost use Rattle.names.specs.Words.{same, ends};
-ghost use Rattle.story.specs.File.{story_in, InOrder};
+ghost use Rattle.story.specs.File.{story_in};
 ghost use Rattle.symbols.specs.Rows.{spellings_in, first_of};
 ghost use Rattle.lookups.specs.declared.LookupRefusal.TheVariants.{Unreadable};
 ghost use Rattle.lookups.specs.Results.{answer_of, number_of};
 ghost use Rattle.lookups.specs.Lookup.{entry_of, target_of, Looked};
 
 use fields::{Refusal, refusal_number};
+use items::files::KeptFile;
 use names::{is_reserved, passes};
 use searches::is_function_name;
 use story::trailer::read_trailer;
-use story::{Sections, read};
+use story::{FileView, read};
 use symbols::entries::write_index;
 use symbols::targets::{find_ending, find_exact};
 
@@ -77,10 +78,11 @@ fn lookup_entry(file: &[u8], index: &[u32], count: usize, target: &[u8]) -> Targ
 }
 
 // What the target is in a file with these sections, whose index has so many entries.
-fn lookup_target(file: &[u8], c: Sections, index: &[u32], count: usize, target: &[u8]) -> Target
-    requires { InOrder c file.now }
-    ensures { answer_of result ≡ target_of (story_in c file.now).flows (spellings_in file.now count index.now) target.now }
+fn lookup_target(source: &FileView<'_>, index: &[u32], count: usize, target: &[u8]) -> Target
+    ensures { answer_of result ≡ target_of (story_in source.now.sections source.now.file.now).flows (spellings_in source.now.file.now count index.now) target.now }
 {
+    let file = source.file;
+    let c = source.sections;
     if passes(target) {
         return Target::Pass;
     }
@@ -107,8 +109,16 @@ fn lookup_in(
     if index.len() < 3 * c.end {
         return Err(LookupRefusal::ShortIndex);
     }
-    let entries = write_index(file, c, &items[..n], index);
-    let target = lookup_target(file, c, index, entries, target);
+    let kept = &items[..n];
+    let sections = c;
+    let story = KeptFile {
+        file,
+        sections,
+        kept,
+    };
+    let entries = write_index(&story, index);
+    let source = FileView { file, sections };
+    let target = lookup_target(&source, index, entries, target);
     Ok(Answered { target, entries })
 }
 

@@ -5,7 +5,7 @@
 
 ghost use Rattle.std.specs.Prelude.{◌≤◌};
 
-use builder::{Builder, Starts};
+use builder::{Builder, Kind, Starts};
 use fields::refusal_number;
 use host::read_full;
 use std::io;
@@ -13,9 +13,6 @@ use story::read;
 
 // What the lent numbers are before a file is read.
 const BLANK_NUMBER: u32 = 2779096485;
-
-// The kind byte of a gather label.
-const GATHER: u8 = 15;
 
 // The most bytes that a file may have before its trailer.
 const LONGEST: usize = 1048556;
@@ -77,7 +74,7 @@ fn print_last_place(rt: &impl Print, space: &mut [u8]) -> io::Result<()> {
     let mut story = Builder::new(space);
     story.zeros(LONGEST - 6);
     let root = story.end();
-    story.named(GATHER, b"");
+    story.named(Kind::Gather.byte(), b"");
     let flows = story.end();
     story.trailer(Starts {
         globals: 0,

@@ -2,7 +2,7 @@
 ghost use Rattle.std.specs.Prelude.{◌≡◌, ◌≤◌, ◌<◌, length, is_err};
 ghost use Rattle.names.specs.Words.{any, one_of};
 ghost use Rattle.story.specs.Story.{words};
-ghost use Rattle.story.specs.File.{InOrder, story_in};
+ghost use Rattle.story.specs.File.{story_in};
 ghost use Rattle.searches.specs.Called.{is_flow, is_function};
 ghost use Rattle.sets.specs.Sets.{number_of, name_slots, Reachable, Without};
 ghost use Rattle.sets.specs.Known.{NamesPut, FlowPut, FlowsPut, NamesIn};
@@ -10,7 +10,7 @@ ghost use Rattle.sets.specs.Known.{NamesPut, FlowPut, FlowsPut, NamesIn};
 use crate::{Class, Full, clear, has, put};
 use searches::views::{FlowView, flow_view};
 use searches::{is_flow_name, is_function_name, section_has_name};
-use story::Sections;
+use story::FileView;
 
 // The offsets from which on the names of the globals, of the externals and of the flows are not in the set.
 #[derive(Clone, Copy)]
@@ -54,15 +54,14 @@ fn put_flow(file: &[u8], v: FlowView, set: &mut [u32]) -> Result<(), Full>
 }
 
 // Puts the names of the flows, up to the first for which there is no room. The answer is the offset of that flow.
-fn put_flows(file: &[u8], c: Sections, set: &mut [u32]) -> usize
-    requires in_order { InOrder c file.now }
-    requires without { Without (name_slots file.now) 2 set.old }
-    requires without_2 { Without (name_slots file.now) 3 set.old }
-    ensures { FlowsPut file.now c set.old set.new result }
+fn put_flows(source: &FileView<'_>, set: &mut [u32]) -> usize
+    requires without { Without (name_slots source.now.file.now) 2 set.old }
+    requires without_2 { Without (name_slots source.now.file.now) 3 set.old }
+    ensures { FlowsPut source.now.file.now source.now.sections set.old set.new result }
 {
-    let mut at = c.flows;
-    while let Some(v) = flow_view(file, at, c.end) {
-        if put_flow(file, v, set).is_err() {
+    let mut at = source.sections.flows;
+    while let Some(v) = flow_view(source.file, at, source.sections.end) {
+        if put_flow(source.file, v, set).is_err() {
             return at;
         }
         at = v.end;
@@ -71,14 +70,15 @@ fn put_flows(file: &[u8], c: Sections, set: &mut [u32]) -> usize
 }
 
 // Empties the set, and puts the names of the story.
-pub fn put_known(file: &[u8], c: Sections, set: &mut [u32]) -> Names
-    requires { InOrder c file.now }
-    ensures { NamesIn file.now c set.new result }
+pub fn put_known(source: &FileView<'_>, set: &mut [u32]) -> Names
+    ensures { NamesIn source.now.file.now source.now.sections set.new result }
 {
+    let file = source.file;
+    let c = source.sections;
     clear(set);
     let globals = put_names(file, Class::Global, 0, c.externals, set);
     let externals = put_names(file, Class::External, c.externals, c.root, set);
-    let flows = put_flows(file, c, set);
+    let flows = put_flows(source, set);
     Names {
         globals,
         externals,
@@ -86,54 +86,53 @@ pub fn put_known(file: &[u8], c: Sections, set: &mut [u32]) -> Names
     }
 }
 
-// The names of a story as its set has them: the file, its sections in order, the filled set, and the names that are not in it.
+// The names of a story as its set has them: the file with its sections, the filled set, and the names that are not in it.
 #[derive(Clone, Copy)]
 pub struct Known<'a> {
-    pub file: &'a [u8],
-    pub sections: Sections,
+    pub source: FileView<'a>,
     pub set: &'a [u32],
     pub rest: Names,
-    pub ghost in_order: { InOrder sections file.now },
-    pub ghost names_in: { NamesIn file.now sections set.now rest },
+    pub ghost names_in: { NamesIn source.file.now source.sections set.now rest },
 }
 
 impl Known<'_> {
     // The name is a global's: by the set, or by going through those that are not in it.
     pub fn is_global(&self, name: &[u8]) -> bool
-        ensures { result ≡ one_of name.now (words (story_in self.now.sections self.now.file.now).globals) }
+        ensures { result ≡ one_of name.now (words (story_in self.now.source.sections self.now.source.file.now).globals) }
     {
         let from = self.rest.globals;
-        let to = self.sections.externals;
-        has(self.file, self.set, Class::Global, name)
-            || section_has_name(&self.file[from..to], name)
+        let to = self.source.sections.externals;
+        has(self.source.file, self.set, Class::Global, name)
+            || section_has_name(&self.source.file[from..to], name)
     }
 
     // The name is an external's.
     pub fn is_external(&self, name: &[u8]) -> bool
-        ensures { result ≡ one_of name.now (words (story_in self.now.sections self.now.file.now).externals) }
+        ensures { result ≡ one_of name.now (words (story_in self.now.source.sections self.now.source.file.now).externals) }
     {
         let from = self.rest.externals;
-        let to = self.sections.root;
-        has(self.file, self.set, Class::External, name)
-            || section_has_name(&self.file[from..to], name)
+        let to = self.source.sections.root;
+        has(self.source.file, self.set, Class::External, name)
+            || section_has_name(&self.source.file[from..to], name)
     }
 
     // The name is a flow's.
     pub fn is_flow(&self, name: &[u8]) -> bool
-        ensures { result ≡ any (is_flow name.now) (story_in self.now.sections self.now.file.now).flows }
+        ensures { result ≡ any (is_flow name.now) (story_in self.now.source.sections self.now.source.file.now).flows }
     {
         let from = self.rest.flows;
-        let to = self.sections.end;
-        has(self.file, self.set, Class::Flow, name) || is_flow_name(&self.file[from..to], name)
+        let to = self.source.sections.end;
+        has(self.source.file, self.set, Class::Flow, name)
+            || is_flow_name(&self.source.file[from..to], name)
     }
 
     // The name is a function's.
     pub fn is_function(&self, name: &[u8]) -> bool
-        ensures { result ≡ any (is_function name.now) (story_in self.now.sections self.now.file.now).flows }
+        ensures { result ≡ any (is_function name.now) (story_in self.now.source.sections self.now.source.file.now).flows }
     {
         let from = self.rest.flows;
-        let to = self.sections.end;
-        has(self.file, self.set, Class::Function, name)
-            || is_function_name(&self.file[from..to], name)
+        let to = self.source.sections.end;
+        has(self.source.file, self.set, Class::Function, name)
+            || is_function_name(&self.source.file[from..to], name)
     }
 }

@@ -73,19 +73,25 @@ impl<'a> NamedItems<'a> {
     }
 }
 
-// The name is one of those of the first i items that are of the sought sort: by the set, or by going through the items from `rest` on.
-pub fn has_among(
-    sought: Sought,
-    file: &[u8],
-    items: &[u32],
-    i: usize,
-    rest: usize,
-    class: Class,
-    set: &[u32],
-    name: &[u8],
-) -> bool
-    requires members { Members sought file.now (number_of class) items.now i set.now rest }
-    ensures { result ≡ found_among sought (whats (items_at file.now (take i items.now))) name.now }
-{
-    has(file, set, class, name) || found_in(sought, file, &items[rest..i], name)
+// The first `passed` items and a set: the names of those of the sought sort are in the set, in the class, but for those from item `rest` on.
+#[derive(Clone, Copy)]
+pub struct Among<'a> {
+    pub sought: Sought,
+    pub file: &'a [u8],
+    pub items: &'a [u32],
+    pub passed: usize,
+    pub rest: usize,
+    pub class: Class,
+    pub set: &'a [u32],
+    pub ghost members: { Members sought file.now (number_of class) items.now passed set.now rest },
+}
+
+impl Among<'_> {
+    // The name is one of those of the passed items that are of the sought sort: by the set, or by going through the items from `rest` on.
+    pub fn has(&self, name: &[u8]) -> bool
+        ensures { result ≡ found_among self.now.sought (whats (items_at self.now.file.now (take self.now.passed self.now.items.now))) name.now }
+    {
+        let left = &self.items[self.rest..self.passed];
+        has(self.file, self.set, self.class, name) || found_in(self.sought, self.file, left, name)
+    }
 }

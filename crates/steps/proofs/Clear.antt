@@ -25,7 +25,7 @@ use Rattle.steps.proofs.Visiting.{taken}
 
 -- 1. Two tests that both pass
 
-both : (a b : Bool) → (a && b) ≡ true → (a ≡ true) × (b ≡ true)
+pub both : (a b : Bool) → (a && b) ≡ true → (a ≡ true) × (b ≡ true)
 both true b e = (refl, e)
 both false b e = absurd (true≢false (sym e))
 

@@ -15,7 +15,7 @@ use Rattle.items.specs.Bodies.{items_at, kept_story, kept_flow, Kept}
 use Rattle.items.specs.Runs.{number_before}
 use Rattle.items.proofs.RisingPlaces.{number-rises}
 use Rattle.rules.specs.Rules as rules
-use Rattle.rules.specs.Steps.{s5, s6, s19, flow_steps, over, param_items, purity_items, stitch_runs, flow_runs}
+use Rattle.rules.specs.Steps.{Step, s5, s6, s19, flow_steps, bracket, over, param_items, purity_items, stitch_runs, flow_runs}
 use Rattle.broken.specs.declared.Scope.{Scope}
 use Rattle.broken.specs.Scopes.{body_run, ScopeReady, known_in, here_in}
 use Rattle.steps.specs.declared.Tally.{Tally}
@@ -23,14 +23,11 @@ use Rattle.steps.specs.declared.bodies.Course.{Course}
 use Rattle.steps.specs.declared.context.Knot.{Knot}
 use Rattle.steps.specs.declared.context.StoryTurn.{StoryTurn}
 use Rattle.steps.specs.Heard.{Heard, heard, passed, hear_runs}
-use Rattle.steps.specs.Clear.{clear_along}
+use Rattle.steps.specs.Clear.{clear_along, among}
 use Rattle.steps.specs.Looks.{look_rules}
 use Rattle.steps.specs.Turns.{ScopeIs}
 use Rattle.steps.specs.Scopes.{kept_flows, FlowsReady}
 use Rattle.steps.specs.Headings.{HeadingReady, FlowIs}
-use Rattle.steps.specs.declared.brackets.Along.{Along}
-use Rattle.steps.specs.declared.brackets.Along.TheVariants as along
-use Rattle.steps.specs.Brackets.{steps_along}
 use Rattle.steps.specs.Courses.{CourseReady}
 use Rattle.steps.specs.Stories.{course_of, first_heard, KnotReady, FlowTurnReady, StoryTurnReady}
 use Rattle.steps.proofs.Coursing.{course-clear}
@@ -66,8 +63,8 @@ module _ {file kept set : List ℕ} {k : Knot} (ready : KnotReady file kept set 
   knot-flow-is tally = record { place = refl; name = rw ready.scope_is; body = sym knot-items }
 
   -- steps along its own list can run
-  pub knot-course : (a : Along) (tally : Tally) → CourseReady file kept set (course_of k a tally)
-  knot-course a tally = record {
+  pub knot-course : (tally : Tally) → CourseReady file kept set (course_of k tally)
+  knot-course tally = record {
     scope_ready = knot-scope-ready;
     knot_set = ready.knot_set;
   }
@@ -86,27 +83,17 @@ module _ {file kept set : List ℕ} {k : Knot} (ready : KnotReady file kept set 
       rw (← p) (rw own at q)
 
   -- steps along its own list, as they were run
-  pub own-told : {sections : Sections} {c : Course} {first : Tally} {r : Heard} (list : List ℕ) → c ≡ course_of k along.Flow first
+  pub own-told : (steps : List Step) {sections : Sections} {c : Course} {tally : Tally} {r : Heard} (list : List ℕ) → c ≡ course_of k tally
       → ((s : rules.Scope) → ScopeIs file kept sections c.scope s
-      → r ≡ hear_runs (kept_story sections file) (heard c.tally list) (over s (items_at file (body_run kept c.scope)) (steps_along c.along)))
-      → r ≡ hear_runs (kept_story sections file) (heard first list) (over (rules.knot (kept_flow file kept k.flow)) (kept_flow file kept k.flow).body flow_steps)
-  own-told list e p = rw knot-items at ((rw e at p) (rules.knot (kept_flow file kept k.flow)) knot-scope-is)
+      → r ≡ hear_runs (kept_story sections file) (heard c.tally list) (over s (items_at file (body_run kept c.scope)) steps))
+      → r ≡ hear_runs (kept_story sections file) (heard tally list) (over (rules.knot (kept_flow file kept k.flow)) (kept_flow file kept k.flow).body steps)
+  own-told steps list e p = rw knot-items at ((rw e at p) (rules.knot (kept_flow file kept k.flow)) knot-scope-is)
 
-  pub gathers-told : {sections : Sections} {c : Course} {tally : Tally} {r : Heard} (list : List ℕ) → c ≡ course_of k along.FlowGathers tally
-      → ((s : rules.Scope) → ScopeIs file kept sections c.scope s
-      → r ≡ hear_runs (kept_story sections file) (heard c.tally list) (over s (items_at file (body_run kept c.scope)) (steps_along c.along)))
-      → r ≡ hear_runs (kept_story sections file) (heard tally list) (over (rules.knot (kept_flow file kept k.flow)) (kept_flow file kept k.flow).body (s19 ∷ []))
-  gathers-told list e p = rw knot-items at ((rw e at p) (rules.knot (kept_flow file kept k.flow)) knot-scope-is)
-
-  -- where the look found it clear
-  module _ (sections : Sections) {b : Bool} (e : b ≡ clear_along (known_in sections file) (here_in file kept k.scope) (look_rules false k.flow.function) [] (items_at file (body_run kept k.scope))) (f : b ≡ true) where
-    pub own-passed : (first : Tally) {r : Tally} (list : List ℕ) → r ≡ passed 5 first
-        → heard r list ≡ hear_runs (kept_story sections file) (heard first list) (over (rules.knot (kept_flow file kept k.flow)) (kept_flow file kept k.flow).body flow_steps)
-    own-passed first list p = own-told list refl (course-clear sections file kept (course_of k along.Flow first) e f p list)
-
-    pub gathers-passed : (tally : Tally) {r : Tally} (list : List ℕ) → r ≡ passed 1 tally
-        → heard r list ≡ hear_runs (kept_story sections file) (heard tally list) (over (rules.knot (kept_flow file kept k.flow)) (kept_flow file kept k.flow).body (s19 ∷ []))
-    gathers-passed tally list p = gathers-told list refl (course-clear sections file kept (course_of k along.FlowGathers tally) e f p list)
+  -- where the look found it clear, and tests all their rules
+  pub own-passed : (sections : Sections) {b : Bool} → b ≡ clear_along (known_in sections file) (here_in file kept k.scope) (look_rules false k.flow.function) [] (items_at file (body_run kept k.scope)) → b ≡ true
+      → (steps : List Step) → among (each bracket steps) (look_rules false k.flow.function) ≡ true → (tally : Tally) {r : Tally} (list : List ℕ) → r ≡ passed (length steps) tally
+      → heard r list ≡ hear_runs (kept_story sections file) (heard tally list) (over (rules.knot (kept_flow file kept k.flow)) (kept_flow file kept k.flow).body steps)
+  own-passed sections e f steps tested tally list p = own-told steps list refl (course-clear sections file kept (course_of k tally) steps tested e f p list)
 
   -- what all its steps hear
   pub knot-told : (sections : Sections) (h : Heard) {a b c d : Heard} → a ≡ first_heard sections file kept k h

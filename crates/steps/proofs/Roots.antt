@@ -7,7 +7,7 @@ use Rattle.story.specs.declared.Sections.{Sections}
 use Rattle.names.specs.Words.{each}
 use Rattle.items.specs.Bodies.{items_at, kept_story, Kept}
 use Rattle.rules.specs.Rules as rules
-use Rattle.rules.specs.Steps.{s20, root_steps, over, flow_runs, runs}
+use Rattle.rules.specs.Steps.{Step, s20, root_steps, over, flow_runs, runs}
 use Rattle.broken.specs.declared.Scope.{Scope}
 use Rattle.broken.specs.declared.Rests.{Rests}
 use Rattle.broken.specs.Scopes.{body_run, ScopeReady, KnotSet}
@@ -16,9 +16,6 @@ use Rattle.steps.specs.declared.bodies.Course.{Course}
 use Rattle.steps.specs.Heard.{Heard, heard, hear_runs}
 use Rattle.steps.specs.Turns.{ScopeIs}
 use Rattle.steps.specs.Scopes.{root_scope}
-use Rattle.steps.specs.declared.brackets.Along.{Along}
-use Rattle.steps.specs.declared.brackets.Along.TheVariants as along
-use Rattle.steps.specs.Brackets.{steps_along}
 use Rattle.steps.specs.Courses.{CourseReady}
 use Rattle.steps.specs.Stories.{root_course, StoryTurnReady}
 use Rattle.steps.proofs.Order.{story-heard}
@@ -35,7 +32,7 @@ module _ {sections : Sections} {file kept : List ℕ} (read : Kept file sections
   root-items = rw e (root-body read)
 
   -- steps along the root can run
-  pub root-course-ready : {set : List ℕ} {n : Rests} {a : Along} {c : Course} {tally : Tally} → c ≡ root_course s n a tally → KnotSet file kept s n set
+  pub root-course-ready : {set : List ℕ} {n : Rests} {c : Course} {tally : Tally} → c ≡ root_course s n tally → KnotSet file kept s n set
       → CourseReady file kept set c
   root-course-ready q k = rw q (record {
     scope_ready = root-scope-ready;
@@ -46,18 +43,12 @@ module _ {sections : Sections} {file kept : List ℕ} (read : Kept file sections
   pub root-flows-ready : (tally : Tally) → StoryTurnReady sections file kept (record { start = s.last; tally = tally })
   root-flows-ready tally = record { before = rw e (omega arith) }
 
-  -- what the steps along it hear
-  pub first-steps-told : {n : Rests} {c : Course} {tally : Tally} {r : Heard} (list : List ℕ) → c ≡ root_course s n along.Root tally
+  -- what steps along it hear
+  pub root-told : (steps : List Step) {n : Rests} {c : Course} {tally : Tally} {r : Heard} (list : List ℕ) → c ≡ root_course s n tally
       → ((z : rules.Scope) → ScopeIs file kept sections c.scope z
-      → r ≡ hear_runs (kept_story sections file) (heard c.tally list) (over z (items_at file (body_run kept c.scope)) (steps_along c.along)))
-      → r ≡ hear_runs (kept_story sections file) (heard tally list) (over rules.root (kept_story sections file).root root_steps)
-  first-steps-told list q p = rw root-items at ((rw q at p) rules.root root-scope-is)
-
-  pub last-step-told : {n : Rests} {c : Course} {tally : Tally} {r : Heard} (list : List ℕ) → c ≡ root_course s n along.RootGathers tally
-      → ((z : rules.Scope) → ScopeIs file kept sections c.scope z
-      → r ≡ hear_runs (kept_story sections file) (heard c.tally list) (over z (items_at file (body_run kept c.scope)) (steps_along c.along)))
-      → r ≡ hear_runs (kept_story sections file) (heard tally list) (over rules.root (kept_story sections file).root (s20 ∷ []))
-  last-step-told list q p = rw root-items at ((rw q at p) rules.root root-scope-is)
+      → r ≡ hear_runs (kept_story sections file) (heard c.tally list) (over z (items_at file (body_run kept c.scope)) steps))
+      → r ≡ hear_runs (kept_story sections file) (heard tally list) (over rules.root (kept_story sections file).root steps)
+  root-told steps list q p = rw root-items at ((rw q at p) rules.root root-scope-is)
 
   -- what all steps of the story hear
   pub story-told : (h : Heard) {a b c : Heard} → a ≡ hear_runs (kept_story sections file) h (over rules.root (kept_story sections file).root root_steps)

@@ -1,5 +1,5 @@
 -- A flow or a stitch that is seen at a place, and those after it. Assumes nothing.
-use Rattle.std.specs.Prelude.{Option, Some, None}
+use Rattle.std.specs.Prelude.{Option, Some, None, is_some}
 use mathlib.Core.Path.{◌≡◌, refl, ap}
 use mathlib.Core.List.{List, [], ◌∷◌, map}
 use Prim.Native.Nat.{ℕ, ◌-◌, ◌≤◌, ◌<◌}
@@ -11,13 +11,13 @@ use Rattle.story.proofs.Readable.{readable}
 use Rattle.searches.specs.declared.views.FlowView.{FlowView}
 use Rattle.searches.specs.declared.views.StitchView.{StitchView}
 use Rattle.searches.specs.Views.{flow_view_of, stitch_view_of}
-use Rattle.searches.proofs.Viewed.{FlowLaid, flow-laid, StitchLaid, stitch-laid}
+use Rattle.searches.proofs.Viewed.{FlowLaid, flow-laid, StitchLaid, stitch-viewed, stitch-laid}
 use Rattle.searches.proofs.Readable.{flow-readable, no_flow, no-stitch, stitch-readable}
 use Rattle.items.specs.Bodies.{kept_story, kept_stitch, kept_stitches, kept_flow, Kept, StitchesKept}
 use Rattle.items.specs.Runs.{number_before}
 use Rattle.items.proofs.RisingPlaces.{number-rises}
 use Rattle.items.proofs.Kept.{kept-flows, flow-stitches, flow-rest, flows-plain, flow-labels, stitch-rest, stitches-plain}
-use Rattle.steps.specs.Scopes.{StitchesReady, FlowReady, StitchReady, kept_flows, FlowsReady}
+use Rattle.steps.specs.Scopes.{has_stitches, StitchesReady, FlowReady, StitchReady, kept_flows, FlowsReady}
 
 module _ (file kept : List ℕ) (at end : ℕ) (ready : FlowsReady file kept at end) {r : Option FlowView} (told : r ≡ flow_view_of file at end) where
   -- no flow is left
@@ -114,6 +114,11 @@ module _ (file : List ℕ) (at end : ℕ) (ready : StitchesReady file at end) {r
 
       pub stitches-rest : StitchesKept file kept w.end end
       stitches-rest = stitch-rest file kept at end ready.ordered ready.within ready.short ready.good own w told q
+
+-- a stitch is seen where there is one
+pub stitch-seen : (file : List ℕ) (at end : ℕ) → StitchesReady file at end → (r : Option StitchView) → r ≡ stitch_view_of file at end → is_some r ≡ has_stitches file at end
+stitch-seen file at end ready (Some w) told = rw (stitch-viewed file at end w told refl)
+stitch-seen file at end ready None told = rw (no-stitches file at end ready told refl)
 
 -- the items up to the end of a flow's body stand before its stitches
 pub stitches-start : {file kept : List ℕ} {v : FlowView} → FlowReady file kept v → number_before v.to kept ≤ number_before v.stitches kept

@@ -57,9 +57,9 @@ module _ {file kept set : List ℕ} {k : Knot} (knot_ready : KnotReady file kept
   }
 
   -- the steps along its body can run
-  pub stitch-course : (function : Bool) (tally : Tally)
-      → CourseReady file kept set (record { scope = s; rests = k.rests; along = along.Stitch; function = function; tally = tally })
-  stitch-course function tally = record {
+  pub stitch-course : (inner function : Bool) (tally : Tally)
+      → CourseReady file kept set (record { scope = s; rests = k.rests; inner = inner; function = function; tally = tally })
+  stitch-course inner function tally = record {
     scope_ready = stitch-scope-ready;
     knot_set = stitch-knot-set;
   }

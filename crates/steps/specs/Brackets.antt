@@ -1,5 +1,5 @@
 -- Inner contract. The code's steps and courses, as the table of steps has them. Assumes nothing.
-use Rattle.std.specs.Prelude.{Bool, true, false, List, [], ◌∷◌}
+use Rattle.std.specs.Prelude.{Bool, true, false, not, ◌&&◌, List, [], ◌∷◌}
 use Rattle.rules.specs.Steps.{Step, s1, s2, s3, s4, s5, s6, s7, s8, s9, s10, s11, s12, s13, s14, s15, s16, s17, s18, s19, s20, root_steps, flow_steps, stitch_steps}
 use Rattle.steps.specs.declared.brackets.Step as code
 use Rattle.steps.specs.declared.brackets.Step.TheVariants.{RootTemps, RootTargets, RootCalls, RootChoices, Purity, Parameters, Temps, Targets, Calls, Choices, VariableDiverts, StitchName, StitchTemps, StitchTargets, StitchCalls, StitchVariableDiverts, StitchVariables, StitchGathers, Gathers, RootGathers}
@@ -36,6 +36,12 @@ on_gathers s19 = true
 on_gathers s20 = true
 on_gathers _ = false
 
+-- a step on gathers stands only last
+unfoldable pub gathers_last : List Step → Bool
+gathers_last [] = true
+gathers_last (step ∷ []) = true
+gathers_last (step ∷ next ∷ more) = not (on_gathers step) && gathers_last (next ∷ more)
+
 -- the steps of a course
 abbrev pub steps_along : code_along.Along → List Step
 steps_along along.Root = root_steps
@@ -43,8 +49,3 @@ steps_along along.RootGathers = s20 ∷ []
 steps_along along.Flow = flow_steps
 steps_along along.FlowGathers = s19 ∷ []
 steps_along along.Stitch = stitch_steps
-
--- the body is a stitch's
-abbrev pub in_stitch : code_along.Along → Bool
-in_stitch along.Stitch = true
-in_stitch _ = false

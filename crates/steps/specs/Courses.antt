@@ -3,7 +3,7 @@ use Rattle.std.specs.Prelude.{ℕ, false, List}
 use Rattle.records.specs.declared.sorts.Sort.TheVariants.{Plain}
 use Rattle.items.specs.Bodies.{items_at}
 use Rattle.rules.specs.Rules as rules
-use Rattle.rules.specs.Steps.{Run, over}
+use Rattle.rules.specs.Steps.{Step as table_step, Run, over}
 use Rattle.broken.specs.declared.Rests.{Rests}
 use Rattle.broken.specs.declared.At.{At}
 use Rattle.broken.specs.Scopes.{body_run, ScopeReady, KnotSet}
@@ -11,11 +11,10 @@ use Rattle.steps.specs.declared.Tally.{Tally}
 use Rattle.steps.specs.declared.brackets.Step.{Step}
 use Rattle.steps.specs.declared.nodes.Turn.{Turn}
 use Rattle.steps.specs.declared.bodies.Course.{Course}
-use Rattle.steps.specs.Brackets.{steps_along}
 
--- the steps of the course as run
-abbrev pub course_runs : List ℕ → List ℕ → Course → rules.Scope → List Run
-course_runs file kept c s = over s (items_at file (body_run kept c.scope)) (steps_along c.along)
+-- the steps along the body as run
+abbrev pub course_runs : List ℕ → List ℕ → Course → List table_step → rules.Scope → List Run
+course_runs file kept c steps s = over s (items_at file (body_run kept c.scope)) steps
 
 -- a step of the course, with other rests and another tally
 abbrev pub turn_at : Course → Rests → Step → Tally → Turn

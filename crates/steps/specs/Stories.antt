@@ -1,9 +1,7 @@
 -- Inner contract. What holds while the steps of a stitch, a flow and a story run. Assumes nothing.
 use Rattle.story.specs.declared.Sections.{Sections}
 use Rattle.std.specs.Prelude.{ℕ, ◌≤◌, ◌≡◌, false, List, [], ◌∷◌}
-use Rattle.std.specs.Coded.{×_prop, Π_prop, →_prop, Unit-prop, le_prop}
-use Rattle.names.specs.Words.{Sorted}
-use Rattle.items.specs.Bodies.{kept_story, kept_flow, Rising}
+use Rattle.items.specs.Bodies.{kept_story, kept_flow}
 use Rattle.items.specs.Runs.{number_before}
 use Rattle.rules.specs.Rules.{knot}
 use Rattle.rules.specs.Steps.{s5, s6, over, param_items, purity_items}
@@ -11,7 +9,6 @@ use Rattle.broken.specs.declared.Scope.{Scope}
 use Rattle.broken.specs.declared.Rests.{Rests}
 use Rattle.broken.specs.Scopes.{KnotSet}
 use Rattle.steps.specs.declared.Tally.{Tally}
-use Rattle.steps.specs.declared.brackets.Along.{Along}
 use Rattle.steps.specs.declared.bodies.Course.{Course}
 use Rattle.steps.specs.declared.context.Knot.{Knot}
 use Rattle.steps.specs.declared.context.StitchTurn.{StitchTurn}
@@ -21,12 +18,12 @@ use Rattle.steps.specs.Heard.{Heard, hear_runs}
 use Rattle.steps.specs.Scopes.{knot_scope, FlowReady, StitchReady}
 
 -- steps along the own list of the flow, after what was heard
-abbrev pub course_of : Knot → Along → Tally → Course
-course_of k along tally = record { scope = k.scope; rests = k.rests; along = along; function = k.flow.function; tally = tally }
+abbrev pub course_of : Knot → Tally → Course
+course_of k tally = record { scope = k.scope; rests = k.rests; inner = false; function = k.flow.function; tally = tally }
 
 -- steps along the root
-abbrev pub root_course : Scope → Rests → Along → Tally → Course
-root_course scope rests along tally = record { scope = scope; rests = rests; along = along; function = false; tally = tally }
+abbrev pub root_course : Scope → Rests → Tally → Course
+root_course scope rests tally = record { scope = scope; rests = rests; inner = false; function = false; tally = tally }
 
 -- what is heard after steps 5 and 6 of the flow
 abbrev pub first_heard : Sections → List ℕ → List ℕ → Knot → Heard → Heard
@@ -56,12 +53,3 @@ pub record FlowTurnReady (file kept : List ℕ) (t : FlowTurn) : Type 0 where
 -- the steps of the flows can run
 pub record StoryTurnReady (sections : Sections) (file kept : List ℕ) (t : StoryTurn) : Type 0 where
   pub before : t.start ≤ number_before sections.flows kept
-
--- a list is sorted in one way at most
-sorted_prop : {A : Type 0} {R : A → A → Type 0} → ((x y : A) → IsProp (R x y)) → (xs : List A) → IsProp (Sorted R xs)
-sorted_prop p [] = Unit-prop
-sorted_prop p (x ∷ xs) = ×_prop (Π_prop (λ y. →_prop (p x y))) (sorted_prop p xs)
-
--- numbers rise in one way at most, and so a knot is ready in one way at most
-pub rising_prop : (kept : List ℕ) → IsProp (Rising kept)
-rising_prop kept = sorted_prop (λ x y. le_prop) kept

@@ -1,17 +1,18 @@
 // The steps along one body, one after the other.
-ghost use Rattle.std.specs.Prelude.{◌≡◌, [], ◌≤◌};
+ghost use Rattle.std.specs.Prelude.{◌≡◌, true, [], ◌≤◌, map};
+ghost use Rattle.names.specs.Words.{each};
 ghost use Rattle.items.specs.Bodies.{items_at, kept_story};
 ghost use Rattle.rules.specs.Rules as rules;
-ghost use Rattle.rules.specs.Steps.{over};
+ghost use Rattle.rules.specs.Steps.{bracket, over};
 ghost use Rattle.broken.specs.Scopes.{known_in, here_in, body_run};
 ghost use Rattle.steps.specs.Heard.{heard, hear_runs};
-ghost use Rattle.steps.specs.Clear.{clear_along};
+ghost use Rattle.steps.specs.Clear.{clear_along, among};
 ghost use Rattle.steps.specs.Looks.{look_rules};
 ghost use Rattle.steps.specs.Turns.{ScopeIs};
-ghost use Rattle.steps.specs.Brackets.{steps_along, in_stitch};
+ghost use Rattle.steps.specs.Brackets.{step_of, gathers_last};
 ghost use Rattle.steps.specs.Courses.{turn_at, look_at, CourseReady};
 
-use crate::brackets::{Along, Step};
+use crate::brackets::Step;
 use crate::fillings::put_body;
 use crate::looks::{Look, is_body_clear};
 use crate::nodes::{Turn, validate_nodes};
@@ -21,24 +22,27 @@ use broken::{At, Rests, Scope, Thing};
 use records::sorts::Sort;
 use sets::members::NamedItems;
 
-// Steps along a body: where they run, the numbers of the items from which on the names are in no set, which steps, whether the body is a
-// function's own list, and what was heard before.
+// Where steps along a body run: the scope, the numbers of the items from which on the names are in no set, whether the body is a stitch's and
+// whether it is a function's own list, and what was heard before.
 #[derive(Clone, Copy)]
 pub struct Course {
     pub scope: Scope,
     pub rests: Rests,
-    pub along: Along,
+    pub inner: bool,
     pub function: bool,
     pub tally: Tally,
 }
 
-// A body with the steps along it, of a story at hand, and the set of its knot: all that the steps may ask is ready but for the body's set.
+// A body with the steps along it, of a story at hand, and the set of its knot: all that the steps may ask is ready but for the body's set, and
+// only the last of them is one on gathers.
 #[derive(Clone, Copy)]
 pub struct Body<'a, 'b> {
     pub story: &'a Story<'b>,
     pub knot: &'a [u32],
     pub course: Course,
+    pub steps: &'a [Step],
     pub ghost ready: { CourseReady story.now.file.now story.now.kept.now knot.now course },
+    pub ghost gathers_last: { gathers_last (map step_of steps.now) ≡ true },
 }
 
 // A step of the course, with these rests and what was heard before it.
@@ -86,7 +90,7 @@ fn look_at(c: Course, rests: Rests) -> At
 impl Body<'_, '_> {
     // THE STEPS along the body's items, one after the other, until it is full. A step on gathers is the last, so the body's set is filled once.
     pub fn validate_steps(&self, body: &mut [u32], list: &mut [u32]) -> Tally
-        ensures { (s : rules.Scope) → ScopeIs self.now.story.now.file.now self.now.story.now.kept.now self.now.story.now.view.sections self.now.course.scope s → heard result list.new ≡ hear_runs (kept_story self.now.story.now.view.sections self.now.story.now.file.now) (heard self.now.course.tally list.old) (over s (items_at self.now.story.now.file.now (body_run self.now.story.now.kept.now self.now.course.scope)) (steps_along self.now.course.along)) }
+        ensures { (s : rules.Scope) → ScopeIs self.now.story.now.file.now self.now.story.now.kept.now self.now.story.now.view.sections self.now.course.scope s → heard result list.new ≡ hear_runs (kept_story self.now.story.now.view.sections self.now.story.now.file.now) (heard self.now.course.tally list.old) (over s (items_at self.now.story.now.file.now (body_run self.now.story.now.kept.now self.now.course.scope)) (map step_of self.now.steps.now)) }
     {
         let story = self.story;
         let c = self.course;
@@ -94,10 +98,9 @@ impl Body<'_, '_> {
             file: story.file,
             items: story.kept,
         };
-        let rests = put_body(kept, c.scope, c.rests, c.along.is_in_stitch(), body);
+        let rests = put_body(kept, c.scope, c.rests, c.inner, body);
         let mut tally = c.tally;
-        let steps = c.along.steps();
-        for &step in steps {
+        for &step in self.steps {
             if is_full(tally) {
                 return tally;
             }
@@ -109,19 +112,18 @@ impl Body<'_, '_> {
 
     // Fills the body's set, and looks once at its items: no rule of the look is broken at any of them.
     fn is_clear_in(&self, body: &mut [u32]) -> bool
-        ensures { result ≡ clear_along (known_in self.now.story.now.view.sections self.now.story.now.file.now) (here_in self.now.story.now.file.now self.now.story.now.kept.now self.now.course.scope) (look_rules (in_stitch self.now.course.along) self.now.course.function) [] (items_at self.now.story.now.file.now (body_run self.now.story.now.kept.now self.now.course.scope)) }
+        ensures { result ≡ clear_along (known_in self.now.story.now.view.sections self.now.story.now.file.now) (here_in self.now.story.now.file.now self.now.story.now.kept.now self.now.course.scope) (look_rules self.now.course.inner self.now.course.function) [] (items_at self.now.story.now.file.now (body_run self.now.story.now.kept.now self.now.course.scope)) }
     {
         let story = self.story;
         let c = self.course;
-        let inner = c.along.is_in_stitch();
         let kept = NamedItems {
             file: story.file,
             items: story.kept,
         };
-        let rests = put_body(kept, c.scope, c.rests, inner, body);
+        let rests = put_body(kept, c.scope, c.rests, c.inner, body);
         let at = look_at(c, rests);
         let look = Look {
-            inner,
+            inner: c.inner,
             function: c.function,
         };
         is_body_clear(look, story, self.knot, body, at)
@@ -129,19 +131,20 @@ impl Body<'_, '_> {
 
     // No rule of the look is broken at any item of the body. Only as many slots of the body's set are used as its items need.
     pub fn is_clear(&self, body: &mut [u32]) -> bool
-        ensures { result ≡ clear_along (known_in self.now.story.now.view.sections self.now.story.now.file.now) (here_in self.now.story.now.file.now self.now.story.now.kept.now self.now.course.scope) (look_rules (in_stitch self.now.course.along) self.now.course.function) [] (items_at self.now.story.now.file.now (body_run self.now.story.now.kept.now self.now.course.scope)) }
+        ensures { result ≡ clear_along (known_in self.now.story.now.view.sections self.now.story.now.file.now) (here_in self.now.story.now.file.now self.now.story.now.kept.now self.now.course.scope) (look_rules self.now.course.inner self.now.course.function) [] (items_at self.now.story.now.file.now (body_run self.now.story.now.kept.now self.now.course.scope)) }
     {
         let scope = self.course.scope;
         let slots = room(body.len(), scope.last - scope.first);
         self.is_clear_in(&mut body[..slots])
     }
 
-    // THE STEPS along the body's items, those that find nothing by one look.
+    // THE STEPS along the body's items, those that find nothing by one look, which tests all their rules.
     pub fn validate(&self, body: &mut [u32], list: &mut [u32]) -> Tally
-        ensures { (s : rules.Scope) → ScopeIs self.now.story.now.file.now self.now.story.now.kept.now self.now.story.now.view.sections self.now.course.scope s → heard result list.new ≡ hear_runs (kept_story self.now.story.now.view.sections self.now.story.now.file.now) (heard self.now.course.tally list.old) (over s (items_at self.now.story.now.file.now (body_run self.now.story.now.kept.now self.now.course.scope)) (steps_along self.now.course.along)) }
+        requires { among (each bracket (map step_of self.now.steps.now)) (look_rules self.now.course.inner self.now.course.function) ≡ true }
+        ensures { (s : rules.Scope) → ScopeIs self.now.story.now.file.now self.now.story.now.kept.now self.now.story.now.view.sections self.now.course.scope s → heard result list.new ≡ hear_runs (kept_story self.now.story.now.view.sections self.now.story.now.file.now) (heard self.now.course.tally list.old) (over s (items_at self.now.story.now.file.now (body_run self.now.story.now.kept.now self.now.course.scope)) (map step_of self.now.steps.now)) }
     {
         if self.is_clear(body) {
-            return pass_runs(self.course.tally, self.course.along.many());
+            return pass_runs(self.course.tally, self.steps.len());
         }
         self.validate_steps(body, list)
     }

@@ -1,7 +1,7 @@
 // The twenty steps with their rules, and the courses: the steps that run along one body.
 ghost use Rattle.std.specs.Prelude.{◌≡◌, map, length};
 ghost use Rattle.rules.specs.Steps.{bracket};
-ghost use Rattle.steps.specs.Brackets.{step_of, on_gathers, steps_along, in_stitch};
+ghost use Rattle.steps.specs.Brackets.{step_of, on_gathers, steps_along};
 
 use rules::Rule;
 
@@ -67,10 +67,10 @@ impl Step {
     pub fn is_on_gathers(self) -> bool
         ensures { result ≡ on_gathers (step_of self) }
     {
-        match self {
-            Step::StitchGathers | Step::Gathers | Step::RootGathers => true,
-            _ => false,
-        }
+        matches!(
+            self,
+            Step::RootGathers | Step::Gathers | Step::StitchGathers
+        )
     }
 }
 
@@ -122,15 +122,5 @@ impl Along {
         ensures { result ≡ length (steps_along self) }
     {
         self.steps().len()
-    }
-
-    // The body is a stitch's.
-    pub fn is_in_stitch(self) -> bool
-        ensures { result ≡ in_stitch self }
-    {
-        match self {
-            Along::Stitch => true,
-            _ => false,
-        }
     }
 }

@@ -2,10 +2,10 @@
 ghost use Rattle.std.specs.Prelude.{◌≡◌, ◌≤◌};
 ghost use Rattle.std.proofs.Props.{props};
 ghost use Rattle.names.specs.Words.{each};
-ghost use Rattle.items.specs.Bodies.{kept_story, kept_stitch, kept_flow};
+ghost use Rattle.items.specs.Bodies.{kept_story, kept_stitch, kept_flow, rising_prop};
 ghost use Rattle.rules.specs.Steps.{stitch_runs, flow_runs, runs};
 ghost use Rattle.steps.specs.Heard.{heard, hear_runs};
-ghost use Rattle.steps.specs.Stories.{course_of, root_course, first_heard, KnotReady, StitchTurnReady, FlowTurnReady, StoryTurnReady, rising_prop};
+ghost use Rattle.steps.specs.Stories.{course_of, root_course, first_heard, KnotReady, StitchTurnReady, FlowTurnReady, StoryTurnReady};
 
 use crate::bodies::{Body, Course, room};
 use crate::brackets::Along;
@@ -17,8 +17,10 @@ use crate::scopes::{index_from, knot_scope, root_scope, stitch_scope};
 use crate::{Tally, is_full, pass_runs};
 use broken::asked::Story;
 use broken::{Rests, Scope};
+use items::runs::KeptNumbers;
 use searches::views::{FlowView, StitchView, flow_view, stitch_view};
 use sets::members::NamedItems;
+use story::FileView;
 
 // A knot: the flow, where its steps run, and the numbers of the items from which on the names are in no set.
 #[derive(Clone, Copy)]
@@ -54,7 +56,10 @@ impl FilledKnot<'_, '_> {
         let story = self.story;
         let knot = self.set;
         let rests = self.knot.rests;
-        let scope = stitch_scope(story.kept, self.knot.scope, t.stitch, t.start);
+        let kept = KeptNumbers {
+            numbers: story.kept,
+        };
+        let scope = stitch_scope(kept, self.knot.scope, t.stitch, t.start);
         let heading = Heading {
             scope,
             rests,
@@ -66,16 +71,17 @@ impl FilledKnot<'_, '_> {
         let course = Course {
             scope,
             rests,
-            along: Along::Stitch,
+            inner: true,
             function: false,
             tally: first,
         };
-        let steps = Body {
+        let own = Body {
             story,
             knot,
             course,
+            steps: Along::Stitch.steps(),
         };
-        steps.validate(body, list)
+        own.validate(body, list)
     }
 
     // Steps 12 to 18, of its stitches one after the other, until it is full.
@@ -85,6 +91,9 @@ impl FilledKnot<'_, '_> {
         let story = self.story;
         let k = self.knot;
         let mut tally = before;
+        let kept = KeptNumbers {
+            numbers: story.kept,
+        };
         let mut at = k.flow.stitches;
         let mut start = k.scope.own;
         while let Some(w) = stitch_view(story.file, at, k.flow.end) {
@@ -98,7 +107,7 @@ impl FilledKnot<'_, '_> {
             };
             tally = self.validate_stitch(body, list, t);
             at = w.end;
-            start = index_from(story.kept, start, at);
+            start = index_from(kept, start, at);
         }
         tally
     }
@@ -128,15 +137,15 @@ impl FilledKnot<'_, '_> {
     }
 
     // Steps along the own list of its flow, after what was heard.
-    fn course(&self, along: Along, tally: Tally) -> Course
-        ensures { result ≡ course_of self.now.knot along tally }
+    fn course(&self, tally: Tally) -> Course
+        ensures { result ≡ course_of self.now.knot tally }
     {
         let scope = self.knot.scope;
         let rests = self.knot.rests;
         Course {
             scope,
             rests,
-            along,
+            inner: false,
             function: self.knot.flow.function,
             tally,
         }
@@ -152,7 +161,8 @@ impl FilledKnot<'_, '_> {
         let own = Body {
             story,
             knot,
-            course: self.course(Along::Flow, first),
+            course: self.course(first),
+            steps: Along::Flow.steps(),
         };
         if own.is_clear(body) {
             let passed = pass_runs(first, Along::Flow.many());
@@ -164,7 +174,8 @@ impl FilledKnot<'_, '_> {
         let gathers = Body {
             story,
             knot,
-            course: self.course(Along::FlowGathers, tally),
+            course: self.course(tally),
+            steps: Along::FlowGathers.steps(),
         };
         gathers.validate_steps(body, list)
     }
@@ -223,6 +234,9 @@ fn validate_flows(
     ensures { heard result list.new ≡ hear_runs (kept_story story.now.view.sections story.now.file.now) (heard t.tally list.old) (each flow_runs (kept_story story.now.view.sections story.now.file.now).flows) }
 {
     let mut tally = t.tally;
+    let kept = KeptNumbers {
+        numbers: story.kept,
+    };
     let mut at = story.view.sections.flows;
     let mut start = t.start;
     while let Some(flow) = flow_view(story.file, at, story.view.sections.end) {
@@ -234,19 +248,19 @@ fn validate_flows(
         let turn = FlowTurn { flow, start, tally };
         tally = validate_flow(story, &mut knot[..slots], body, list, turn);
         at = flow.end;
-        start = index_from(story.kept, start, at);
+        start = index_from(kept, start, at);
     }
     tally
 }
 
 // Steps along the root, after what was heard.
-fn root_course(scope: Scope, rests: Rests, along: Along, tally: Tally) -> Course
-    ensures { result ≡ root_course scope rests along tally }
+fn root_course(scope: Scope, rests: Rests, tally: Tally) -> Course
+    ensures { result ≡ root_course scope rests tally }
 {
     Course {
         scope,
         rests,
-        along,
+        inner: false,
         function: false,
         tally,
     }
@@ -264,7 +278,14 @@ pub fn validate_story(
     ensures { heard result list.new ≡ hear_runs (kept_story story.now.view.sections story.now.file.now) (heard t.tally list.old) (runs (kept_story story.now.view.sections story.now.file.now)) }
 {
     let tally = t.tally;
-    let scope = root_scope(story.file, story.view.sections, story.kept);
+    let source = FileView {
+        file: story.file,
+        sections: story.view.sections,
+    };
+    let numbers = KeptNumbers {
+        numbers: story.kept,
+    };
+    let scope = root_scope(source, numbers);
     let kept = NamedItems {
         file: story.file,
         items: story.kept,
@@ -273,7 +294,8 @@ pub fn validate_story(
     let root = Body {
         story,
         knot,
-        course: root_course(scope, rests, Along::Root, tally),
+        course: root_course(scope, rests, tally),
+        steps: Along::Root.steps(),
     };
     let first = root.validate(body, list);
     let turn = StoryTurn {
@@ -290,7 +312,8 @@ pub fn validate_story(
     let gathers = Body {
         story,
         knot: &story.names[..0],
-        course: root_course(scope, none, Along::RootGathers, flows),
+        course: root_course(scope, none, flows),
+        steps: Along::RootGathers.steps(),
     };
     gathers.validate(body, list)
 }

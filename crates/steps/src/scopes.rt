@@ -1,23 +1,23 @@
 // Where a step runs: at the root, for a flow, or for a stitch of a flow, with the runs of its kept items.
 ghost use Rattle.std.specs.Prelude.{◌≡◌, ◌≤◌, length};
-ghost use Rattle.story.specs.File.{InOrder};
-ghost use Rattle.items.specs.Bodies.{Rising};
 ghost use Rattle.items.specs.Runs.{number_before};
 ghost use Rattle.steps.specs.Scopes.{root_scope, knot_scope, stitch_scope, has_stitches, StitchesReady, FlowReady};
 
 use crate::ABSENT;
 use broken::Scope;
-use items::runs::count_before;
+use items::runs::KeptNumbers;
 use searches::views::{FlowView, StitchView, stitch_view};
-use story::Sections;
+use story::FileView;
 
 // How many of the numbers have a place before this one, where so many are known to have one.
-pub fn index_from(kept: &[u32], start: usize, place: usize) -> usize
-    requires rising { Rising kept.now }
-    requires start_bound { start ≤ number_before place kept.now }
-    ensures { (result ≡ number_before place kept.now) × (result ≤ length kept.now) }
+pub fn index_from(kept: KeptNumbers<'_>, start: usize, place: usize) -> usize
+    requires { start ≤ number_before place kept.numbers.now }
+    ensures { (result ≡ number_before place kept.entry.numbers.now) × (result ≤ length kept.entry.numbers.now) }
 {
-    start + count_before(&kept[start..], place)
+    let rest = KeptNumbers {
+        numbers: &kept.numbers[start..],
+    };
+    start + rest.count_before(place)
 }
 
 // The flow has stitches.
@@ -25,20 +25,15 @@ fn has_stitches(file: &[u8], at: usize, end: usize) -> bool
     requires { StitchesReady file.now at end }
     ensures { result ≡ has_stitches file.now at end }
 {
-    let view = stitch_view(file, at, end);
-    match view {
-        Some(_) => true,
-        None => false,
-    }
+    stitch_view(file, at, end).is_some()
 }
 
 // The root, which is its own knot, without name and parameters.
-pub fn root_scope(file: &[u8], c: Sections, kept: &[u32]) -> Scope
-    requires in_order { InOrder c file.now }
-    requires rising { Rising kept.now }
-    ensures { result ≡ root_scope file.now c kept.now }
+pub fn root_scope(source: FileView<'_>, kept: KeptNumbers<'_>) -> Scope
+    ensures { result ≡ root_scope source.entry.file.now source.entry.sections kept.entry.numbers.now }
 {
-    let length = file.len();
+    let c = source.sections;
+    let length = source.file.len();
     let first = index_from(kept, 0, c.root);
     let last = index_from(kept, first, c.flows);
     Scope {
@@ -61,6 +56,7 @@ pub fn knot_scope(file: &[u8], kept: &[u32], v: FlowView, start: usize) -> Scope
     requires start_bound { start ≤ number_before v.from kept.now }
     ensures { result ≡ knot_scope file.now kept.now v }
 {
+    let kept = KeptNumbers { numbers: kept };
     let first = index_from(kept, start, v.from);
     let last = index_from(kept, first, v.to);
     let end = index_from(kept, last, v.end);
@@ -80,10 +76,9 @@ pub fn knot_scope(file: &[u8], kept: &[u32], v: FlowView, start: usize) -> Scope
 }
 
 // A stitch of a knot; so many of the kept items are known to stand before its body.
-pub fn stitch_scope(kept: &[u32], s: Scope, w: StitchView, start: usize) -> Scope
-    requires rising { Rising kept.now }
-    requires from_le_to { (w.from ≤ w.to) × (start ≤ number_before w.from kept.now) }
-    ensures { result ≡ stitch_scope kept.now s w }
+pub fn stitch_scope(kept: KeptNumbers<'_>, s: Scope, w: StitchView, start: usize) -> Scope
+    requires { (w.from ≤ w.to) × (start ≤ number_before w.from kept.numbers.now) }
+    ensures { result ≡ stitch_scope kept.entry.numbers.now s w }
 {
     let first = index_from(kept, start, w.from);
     let last = index_from(kept, first, w.to);

@@ -1,11 +1,9 @@
 // One visit of a step: each rule of its bracket that is broken at the thing is heard, in order.
 ghost use Rattle.std.specs.Prelude.{◌≡◌, List, ℕ};
-ghost use Rattle.names.specs.Words.{only};
 ghost use Rattle.records.specs.Items.{What};
 ghost use Rattle.records.specs.Numbers.{item_in};
-ghost use Rattle.rules.specs.Steps.{names_of};
 ghost use Rattle.broken.specs.Scopes.{Ready};
-ghost use Rattle.steps.specs.Heard.{breach_of, heard, hear_all};
+ghost use Rattle.steps.specs.Heard.{heard, hear_all};
 ghost use Rattle.steps.specs.Visits.{LikeThing, BearsName, thing_of, found};
 
 use crate::{Tally, hear};
@@ -36,24 +34,6 @@ pub fn thing_of(item: u32) -> Thing
     }
 }
 
-// Hears the breach of the rule where it is broken.
-fn hear_if(
-    broken: bool,
-    rule: Rule,
-    t: Tally,
-    place: usize,
-    flow: usize,
-    own: usize,
-    list: &mut [u32],
-) -> Tally
-    ensures { heard result list.new ≡ hear_all (heard t list.old) (only broken (breach_of t.instance rule place (names_of rule flow own))) }
-{
-    if broken {
-        return hear(t, rule, place, flow, own, list);
-    }
-    t
-}
-
 // THE VISIT: hears each of the rules that is broken at the thing, in order.
 pub fn visit_thing(
     story: &Story<'_>,
@@ -75,8 +55,9 @@ pub fn visit_thing(
     };
     let mut tally = v.tally;
     for &rule in rules {
-        let broken = asked.is_broken(rule);
-        tally = hear_if(broken, rule, tally, v.place, at.scope.flow, v.named, list);
+        if asked.is_broken(rule) {
+            tally = hear(tally, rule, v.place, at.scope.flow, v.named, list);
+        }
     }
     tally
 }

@@ -35,27 +35,38 @@ pub struct Heading {
     pub end: usize,
 }
 
-// Globals, externals, root and flows, front to back, the records kept.
-fn read_sections(file: &[u8], c: Sections, out: &mut [u32]) -> Result<usize, Refusal>
-    requires { InOrder c file.now }
-    ensures { Told (run keeping 0 (st out.old 0) (sections_read c file.now)) result out.new }
-{
-    let externals = c.externals;
-    let root = c.root;
-    let flows = c.flows;
-    let end = c.end;
-    read_names(&file[0..externals])?;
-    read_names(&file[externals..root])?;
-    let root_nodes = Part {
-        bytes: &file[root..flows],
-        base: root,
-    };
-    let m = walk_nodes(root_nodes, out, 0)?;
-    let all_flows = Part {
-        bytes: &file[flows..end],
-        base: flows,
-    };
-    read_flows(all_flows, out, m)
+// A file and its sections, which stand in order.
+#[derive(Clone, Copy)]
+pub struct FileView<'a> {
+    pub file: &'a [u8],
+    pub sections: Sections,
+    pub ghost in_order: { InOrder sections file.now },
+}
+
+impl FileView<'_> {
+    // Globals, externals, root and flows, front to back, the records kept.
+    fn read_sections(&self, out: &mut [u32]) -> Result<usize, Refusal>
+        ensures { Told (run keeping 0 (st out.old 0) (sections_read self.now.sections self.now.file.now)) result out.new }
+    {
+        let file = self.file;
+        let c = self.sections;
+        let externals = c.externals;
+        let root = c.root;
+        let flows = c.flows;
+        let end = c.end;
+        read_names(&file[0..externals])?;
+        read_names(&file[externals..root])?;
+        let root_nodes = Part {
+            bytes: &file[root..flows],
+            base: root,
+        };
+        let m = walk_nodes(root_nodes, out, 0)?;
+        let all_flows = Part {
+            bytes: &file[flows..end],
+            base: flows,
+        };
+        read_flows(all_flows, out, m)
+    }
 }
 
 // The refusal of a file, and nothing of the file left in the buffer.
@@ -73,9 +84,12 @@ pub fn read(file: &[u8], items: &mut [u32]) -> Result<(Sections, usize, usize), 
 {
     match read_trailer(file) {
         Err(r) => refused(r, items),
-        Ok(c) => match read_sections(file, c, items) {
-            Err(r) => refused(r, items),
-            Ok(n) => Ok((c, n % MET, n / MET)),
-        },
+        Ok(c) => {
+            let view = FileView { file, sections: c };
+            match view.read_sections(items) {
+                Err(r) => refused(r, items),
+                Ok(n) => Ok((c, n % MET, n / MET)),
+            }
+        }
     }
 }

@@ -1,5 +1,5 @@
 -- The index read back: its entries, three numbers each, and their spellings by the names in the file. Assumes nothing.
-use Rattle.std.specs.Prelude.{Bool, true, false, List, [], ◌∷◌, ◌++◌, map, ℕ, ◌+◌, ◌*◌, take, get_or, eqb, Option, Some, None}
+use Rattle.std.specs.Prelude.{Bool, false, List, [], ◌∷◌, ◌++◌, map, ℕ, ◌+◌, ◌*◌, take, get_or, eqb, Option, Some, None}
 use Rattle.fields.specs.Bytes.{pick}
 use Rattle.names.specs.Words.{Bytes}
 use Rattle.names.specs.Counted.{name_at}

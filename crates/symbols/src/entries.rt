@@ -7,7 +7,7 @@ ghost use Rattle.story.specs.Plain.{flow_without_plain};
 ghost use Rattle.story.specs.Flows.{names_n, counted_in, part, flows, flows_in, stitches};
 ghost use Rattle.story.specs.File.{story_in};
 ghost use Rattle.records.specs.Numbers.{item_in};
-ghost use Rattle.items.specs.Bodies.{Range, items_at, Rising, kept_stitch, kept_stitches, kept_flow, Kept, StitchesKept, FlowsKept};
+ghost use Rattle.items.specs.Bodies.{Range, items_at, kept_stitch, kept_stitches, kept_flow, StitchesKept, FlowsKept};
 ghost use Rattle.std.proofs.Common.{◌∙◌};
 ghost use Rattle.symbols.specs.Storing.{store-none, store-then};
 ghost use Rattle.symbols.specs.Index.{flow_entries, entries};
@@ -16,11 +16,11 @@ ghost use Rattle.symbols.specs.Placed.{placed, names_placed, labels_placed, pref
 
 use crate::visits::Visit;
 use crate::{ABSENT, Places};
+use items::files::KeptFile;
 use items::items::{is_labelled, named_at};
-use items::runs::{body_items, items_from};
+use items::runs::KeptNumbers;
 use names::name_at;
 use searches::views::{FlowView, StitchView, flow_view, stitch_view};
-use story::Sections;
 
 // Stores an entry after the n that the index has, where there is room; how many it has now.
 pub fn put_entry(index: &mut [u32], n: usize, p: Places) -> usize
@@ -124,11 +124,16 @@ fn collect_labels_from_nodes<V: Visit>(
 }
 
 // Visits a stitch: its name with its flow's, its parameters alone, its labels with both.
-fn put_stitch<V: Visit>(file: &[u8], kept: &[u32], v: StitchView, flow: u32, visitor: &mut V)
+fn put_stitch<V: Visit>(
+    file: &[u8],
+    kept: KeptNumbers<'_>,
+    v: StitchView,
+    flow: u32,
+    visitor: &mut V,
+)
     requires name_lt_params { (v.name < v.params) × (v.params < length file.now) × (length file.now ≤ 1048576) }
-    requires rising { Rising kept.now }
-    requires ready { V.ready visitor.old (stitch_placed flow (kept_stitch file.now kept.now v)) }
-    ensures { V.visited visitor.old (stitch_placed flow (kept_stitch file.now kept.now v)) visitor.new }
+    requires ready { V.ready visitor.old (stitch_placed flow (kept_stitch file.now kept.numbers.now v)) }
+    ensures { V.visited visitor.old (stitch_placed flow (kept_stitch file.now kept.entry.numbers.now v)) visitor.new }
 {
     let name = v.name as u32;
     let p = Places {
@@ -138,15 +143,15 @@ fn put_stitch<V: Visit>(file: &[u8], kept: &[u32], v: StitchView, flow: u32, vis
     };
     visitor.visit(p);
     put_params(file, v.params, visitor);
-    let body = body_items(kept, v.from, v.to);
+    let body = kept.body_items(v.from, v.to);
     collect_labels_from_nodes(file, body, flow, name, visitor)
 }
 
 // Visits the stitches of a flow.
-fn put_stitches<V: Visit>(file: &[u8], kept: &[u32], v: FlowView, visitor: &mut V)
+fn put_stitches<V: Visit>(file: &[u8], kept: KeptNumbers<'_>, v: FlowView, visitor: &mut V)
     requires name_in_bounds { (v.name < length file.now) × Range file.now v.stitches v.end }
     requires file_value { ends (stitches (part v.stitches v.end file.now)) ≡ well }
-    requires stitches_kept { StitchesKept file.now kept.now v.stitches v.end }
+    requires stitches_kept { StitchesKept file.now kept.numbers.now v.stitches v.end }
     requires ready { V.ready visitor.old (each (stitch_placed v.name) (kept_stitches file.now v.stitches v.end)) }
     ensures { V.visited visitor.old (each (stitch_placed v.name) (kept_stitches file.now v.stitches v.end)) visitor.new }
 {
@@ -157,7 +162,7 @@ fn put_stitches<V: Visit>(file: &[u8], kept: &[u32], v: FlowView, visitor: &mut 
     while let Some(s) = stitch_view(file, at, end) {
         put_stitch(file, rest, s, flow, visitor);
         at = s.end;
-        rest = items_from(rest, at);
+        rest = rest.items_from(at);
     }
 }
 
@@ -173,12 +178,12 @@ pub fn prefix_number(file: &[u8], name: usize) -> u32
 }
 
 // Visits a flow: its name and its parameters alone, its labels with its name, its stitches.
-fn put_flow<V: Visit>(file: &[u8], kept: &[u32], v: FlowView, visitor: &mut V)
+fn put_flow<V: Visit>(file: &[u8], kept: KeptNumbers<'_>, v: FlowView, visitor: &mut V)
     requires name_lt_params { (v.name < v.params) × (v.params < length file.now) × Range file.now v.stitches v.end }
     requires file_value { ends (stitches (part v.stitches v.end file.now)) ≡ well }
-    requires stitches_kept { StitchesKept file.now kept.now v.stitches v.end }
-    requires ready { V.ready visitor.old (placed (flow_entries (kept_flow file.now kept.now v))) }
-    ensures { V.visited visitor.old (placed (flow_entries (kept_flow file.now kept.now v))) visitor.new }
+    requires stitches_kept { StitchesKept file.now kept.numbers.now v.stitches v.end }
+    requires ready { V.ready visitor.old (placed (flow_entries (kept_flow file.now kept.numbers.now v))) }
+    ensures { V.visited visitor.old (placed (flow_entries (kept_flow file.now kept.entry.numbers.now v))) visitor.new }
 {
     let p = Places {
         flow: ABSENT,
@@ -188,16 +193,16 @@ fn put_flow<V: Visit>(file: &[u8], kept: &[u32], v: FlowView, visitor: &mut V)
     visitor.visit(p);
     put_params(file, v.params, visitor);
     let prefix = prefix_number(file, v.name);
-    let own = body_items(kept, v.from, v.to);
+    let own = kept.body_items(v.from, v.to);
     collect_labels_from_nodes(file, own, prefix, ABSENT, visitor);
     put_stitches(file, kept, v, visitor)
 }
 
 // Visits the flows of a story.
-fn put_flows<V: Visit>(file: &[u8], kept: &[u32], from: usize, end: usize, visitor: &mut V)
+fn put_flows<V: Visit>(file: &[u8], kept: KeptNumbers<'_>, from: usize, end: usize, visitor: &mut V)
     requires range { Range file.now from end }
     requires file_value { ends (flows (part from end file.now)) ≡ well }
-    requires flows_kept { FlowsKept file.now kept.now from end }
+    requires flows_kept { FlowsKept file.now kept.numbers.now from end }
     requires ready { V.ready visitor.old (placed (each flow_entries (map flow_without_plain (flows_in from (part from end file.now))))) }
     ensures { V.visited visitor.old (placed (each flow_entries (map flow_without_plain (flows_in from (part from end file.now))))) visitor.new }
 {
@@ -206,29 +211,32 @@ fn put_flows<V: Visit>(file: &[u8], kept: &[u32], from: usize, end: usize, visit
     while let Some(v) = flow_view(file, at, end) {
         put_flow(file, rest, v, visitor);
         at = v.end;
-        rest = items_from(rest, at);
+        rest = rest.items_from(at);
     }
 }
 
 // Visits THE ENTRIES of a readable file by its kept numbers: globals, labels of the root, flows.
-pub fn visit_entries<V: Visit>(file: &[u8], c: Sections, kept: &[u32], visitor: &mut V)
-    requires kept { Kept file.now c kept.now }
-    requires ready { V.ready visitor.old (placed (entries (story_in c file.now))) }
-    ensures { V.visited visitor.old (placed (entries (story_in c file.now))) visitor.new }
+pub fn visit_entries<V: Visit>(story: &KeptFile<'_>, visitor: &mut V)
+    requires { V.ready visitor.old (placed (entries (story_in story.now.sections story.now.file.now))) }
+    ensures { V.visited visitor.old (placed (entries (story_in story.now.sections story.now.file.now))) visitor.new }
 {
+    let file = story.file;
+    let c = story.sections;
+    let kept = KeptNumbers {
+        numbers: story.kept,
+    };
     let end = c.externals;
     put_names(file, end, 0, end, visitor);
-    let own = body_items(kept, c.root, c.flows);
+    let own = kept.body_items(c.root, c.flows);
     collect_labels_from_nodes(file, own, ABSENT, ABSENT, visitor);
     put_flows(file, kept, c.flows, c.end, visitor)
 }
 
 // Writes the index of a readable file by its kept numbers: globals, labels of the root, flows. The entry count.
-pub fn write_index(file: &[u8], c: Sections, kept: &[u32], index: &mut [u32]) -> usize
-    requires { Kept file.now c kept.now }
-    ensures { st index.new result ≡ store_all (st index.old 0) (placed (entries (story_in c file.now))) }
+pub fn write_index(story: &KeptFile<'_>, index: &mut [u32]) -> usize
+    ensures { st index.new result ≡ store_all (st index.old 0) (placed (entries (story_in story.now.sections story.now.file.now))) }
 {
     let mut store = Store { index, count: 0 };
-    visit_entries(file, c, kept, &mut store);
+    visit_entries(story, &mut store);
     store.count
 }

@@ -2,7 +2,7 @@
 ghost use Rattle.std.specs.Prelude.{Ok, ◌≡◌, ◌-◌, ◌≤◌, ◌<◌, length};
 ghost use Rattle.names.specs.Words.{same, any};
 ghost use Rattle.names.specs.Counted.{name_at};
-ghost use Rattle.story.specs.File.{read_of, InOrder, story_in};
+ghost use Rattle.story.specs.File.{read_of, story_in};
 ghost use Rattle.searches.specs.Called.{is_function};
 ghost use Rattle.tables.specs.Functions.{sought_of, with_flow, Functions};
 
@@ -12,7 +12,7 @@ use names::{name_at, same_at};
 use searches::is_function_name;
 use searches::views::{FlowView, flow_view};
 use sets::Sought;
-use story::Sections;
+use story::{FileView, Sections};
 
 // Goes over the slots of a name up to the name or an empty slot.
 fn seek_name(file: &[u8], table: &[u32], name: &[u8]) -> Sought
@@ -58,26 +58,25 @@ pub fn put_functions(file: &[u8], c: Sections, table: &mut [u32])
 }
 
 // The name is a function's, by going through the flows.
-fn is_function_listed(file: &[u8], c: Sections, name: &[u8]) -> bool
-    requires { InOrder c file.now }
-    ensures { result ≡ any (is_function name.now) (story_in c file.now).flows }
+fn is_function_listed(source: &FileView<'_>, name: &[u8]) -> bool
+    ensures { result ≡ any (is_function name.now) (story_in source.now.sections source.now.file.now).flows }
 {
-    is_function_name(&file[c.flows..c.end], name)
+    let c = source.sections;
+    is_function_name(&source.file[c.flows..c.end], name)
 }
 
 // The name is a function's: by the table, or by going through the flows where other functions have all slots of the name.
-pub fn is_function_in(file: &[u8], c: Sections, table: &[u32], name: &[u8]) -> bool
-    requires in_order { InOrder c file.now }
-    requires functions { Functions file.now c table.now }
-    ensures { result ≡ any (is_function name.now) (story_in c file.now).flows }
+pub fn is_function_in(source: &FileView<'_>, table: &[u32], name: &[u8]) -> bool
+    requires { Functions source.now.file.now source.now.sections table.now }
+    ensures { result ≡ any (is_function name.now) (story_in source.now.sections source.now.file.now).flows }
 {
     if table.len() == 0 {
-        return is_function_listed(file, c, name);
+        return is_function_listed(source, name);
     }
-    let found = seek_name(file, table, name);
+    let found = seek_name(source.file, table, name);
     match found {
         Sought::Found => true,
         Sought::Vacant(_) => false,
-        Sought::Exhausted => is_function_listed(file, c, name),
+        Sought::Exhausted => is_function_listed(source, name),
     }
 }

@@ -3,7 +3,6 @@
 
 ghost use Rattle.std.specs.Prelude.{◌≡◌, ◌+◌, ◌≤◌, ◌*◌, length};
 ghost use Rattle.story.specs.File.{story_in};
-ghost use Rattle.items.specs.Bodies.{Kept};
 ghost use Rattle.validator.specs.declared.CheckRefusal.TheVariants.{Unreadable};
 ghost use Rattle.validator.specs.Results.{number_of};
 ghost use Rattle.validator.specs.Answers.{Told};
@@ -11,13 +10,14 @@ ghost use Rattle.validator.specs.Check.{story_report, report_at};
 ghost use Rattle.validator.specs.Checked.{Reported, Checked};
 
 use context::BreachAt;
-use context::context::validate_story;
+use context::context::{Tables, validate_story};
 use fields::{Refusal, refusal_number};
+use items::files::KeptFile;
 use messages::write_message;
 use names::name_at;
 use rules::Rule;
+use story::read;
 use story::trailer::read_trailer;
-use story::{Sections, read};
 use symbols::entries::write_index;
 use tables::functions::put_functions;
 use tables::hints::put_hints;
@@ -103,16 +103,13 @@ fn write_breach(file: &[u8], b: BreachAt, entries: usize, message: &mut [u8]) ->
 
 // Writes the index, runs the twenty steps, and answers; where there is a breach, writes its text.
 fn check_story(
-    file: &[u8],
-    c: Sections,
-    kept: &[u32],
+    story: &KeptFile<'_>,
     index: &mut [u32],
     message: &mut [u8],
     scratch: Scratch,
 ) -> Verdict
-    requires kept { Kept file.now c kept.now }
-    requires end_in_bounds { (3 * c.end ≤ length index.old) × (640 ≤ length message.old) }
-    ensures { Reported (story_report file.now (story_in c file.now)) index.old message.old (Ok result) index.new message.new }
+    requires { (3 * story.now.sections.end ≤ length index.old) × (640 ≤ length message.old) }
+    ensures { Reported (story_report story.now.file.now (story_in story.now.sections story.now.file.now)) index.old message.old (Ok result) index.new message.new }
 {
     let Scratch {
         functions,
@@ -120,12 +117,18 @@ fn check_story(
         declared,
         gathers,
     } = scratch;
-    let entries = write_index(file, c, kept, index);
-    put_functions(file, c, functions);
+    let file = story.file;
+    let sections = story.sections;
+    let entries = write_index(story, index);
+    put_functions(file, sections, functions);
     put_hints(file, index, entries, hints);
-    let found = validate_story(
-        file, c, kept, index, entries, functions, hints, declared, gathers,
-    );
+    let tables = Tables {
+        index,
+        count: entries,
+        functions,
+        hints,
+    };
+    let found = validate_story(file, sections, story.kept, tables, declared, gathers);
     let Some(b) = found else {
         return Verdict::Accepted(entries);
     };
@@ -134,23 +137,20 @@ fn check_story(
 
 // The check of a readable file, by the numbers kept of it: refusals 7 and 8, and then its story.
 fn check_readable(
-    file: &[u8],
-    c: Sections,
-    kept: &[u32],
+    story: &KeptFile<'_>,
     index: &mut [u32],
     message: &mut [u8],
     scratch: Scratch,
 ) -> Result<Verdict, CheckRefusal>
-    requires { Kept file.now c kept.now }
-    ensures { Reported (report_at (Ok c) file.now (length index.old) (length message.old)) index.old message.old result index.new message.new }
+    ensures { Reported (report_at (Ok story.now.sections) story.now.file.now (length index.old) (length message.old)) index.old message.old result index.new message.new }
 {
-    if index.len() < 3 * c.end {
+    if index.len() < 3 * story.sections.end {
         return Err(CheckRefusal::ShortIndex);
     }
     if message.len() < 640 {
         return Err(CheckRefusal::ShortMessage);
     }
-    Ok(check_story(file, c, kept, index, message, scratch))
+    Ok(check_story(story, index, message, scratch))
 }
 
 // The check of a file, in buffers that are lent for it. The first is for the numbers kept, of which a file has at most one for six bytes.
@@ -164,8 +164,14 @@ fn check_in(
     requires { length file.now ≤ 1048576 → length file.now ≤ 6 * length items.old }
     ensures { Checked file.now index.old message.old result index.new message.new }
 {
-    let (c, n, _) = read(file, items)?;
-    check_readable(file, c, &items[..n], index, message, scratch)
+    let (sections, n, _) = read(file, items)?;
+    let kept = &items[..n];
+    let story = KeptFile {
+        file,
+        sections,
+        kept,
+    };
+    check_readable(&story, index, message, scratch)
 }
 
 // The check of a file, in buffers of these lengths: of 9 KB for a file of 4,096 bytes, of 126 KB for 65,536 bytes, of 1.5 MB for the longest.

@@ -16,21 +16,21 @@ pub returns-then-index-c : goal.returns-then-index-c
 returns-then-index-c c =
     looked-short c.args.file.now c.args.index.now c.args.target.now c.in_ok-c.c (read-sections c.read.ensures c.in_ok-c.was) c.if-index-c.true
 
-pub slice_bounds-write_index-end : goal.slice_bounds-write_index-end
-slice_bounds-write_index-end c =
+pub slice_bounds-kept-end : goal.slice_bounds-kept-end
+slice_bounds-kept-end c =
     omega (arith, read_fits c.read.ensures c.in_ok-c.was c.requires)
 
-pub slice_bounds-write_index-end-2 : goal.slice_bounds-write_index-end-2
-slice_bounds-write_index-end-2 c =
+pub slice_bounds-kept-end-2 : goal.slice_bounds-kept-end-2
+slice_bounds-kept-end-2 c =
     omega (arith, read_taken c.read.ensures c.in_ok-c.was c.requires)
 
-pub write_index-entries-requires : goal.write_index-entries-requires
-write_index-entries-requires c =
-    read_kept c.read.ensures c.in_ok-c.was c.requires
+pub invariant_of-story : goal.invariant_of-story
+invariant_of-story c =
+    record { numbers_kept = read_kept c.read.ensures c.in_ok-c.was c.requires }
 
-pub lookup_target-target-requires : goal.lookup_target-target-requires
-lookup_target-target-requires c =
-    (readable c.args.file.now c.in_ok-c.c refl (read-sections c.read.ensures c.in_ok-c.was)).order
+pub invariant_of-source : goal.invariant_of-source
+invariant_of-source c =
+    record { in_order = (readable c.args.file.now c.in_ok-c.c refl (read-sections c.read.ensures c.in_ok-c.was)).order }
 
 pub returns-in_err-c : goal.returns-in_err-c
 returns-in_err-c c =

@@ -13,7 +13,7 @@ unfolding answer_of target_of
 returns-then-is_function_name c =
     let passes = c.passes in
     let if1 = c.if-passes in
-    rw (← passes.ensures, if1.false, ← function-answer c.args.c c.args.file.now c.args.target.now c.is_function_name.ensures, c.if-is_function_name.true)
+    rw (← passes.ensures, if1.false, ← function-answer c.args.source.now.sections c.args.source.now.file.now c.args.target.now c.is_function_name.ensures, c.if-is_function_name.true)
 
 pub returns-then-is_reserved : goal.returns-then-is_reserved
 unfolding answer_of target_of
@@ -21,7 +21,7 @@ returns-then-is_reserved c =
     let passes = c.passes in
     let if1 = c.if-passes in
     let is-function-name = c.is_function_name in
-    rw (← passes.ensures, if1.false, ← function-answer c.args.c c.args.file.now c.args.target.now is-function-name.ensures, c.if-is_function_name.false, ← c.is_reserved.ensures, c.if-is_reserved.true)
+    rw (← passes.ensures, if1.false, ← function-answer c.args.source.now.sections c.args.source.now.file.now c.args.target.now is-function-name.ensures, c.if-is_function_name.false, ← c.is_reserved.ensures, c.if-is_reserved.true)
 
 pub returns : goal.returns
 unfolding target_of
@@ -30,4 +30,4 @@ returns c =
     let if1 = c.if-passes in
     let is-function-name = c.is_function_name in
     let if2 = c.if-is_function_name in
-    rw (← passes.ensures, if1.false, ← function-answer c.args.c c.args.file.now c.args.target.now is-function-name.ensures, if2.false, ← c.is_reserved.ensures, c.if-is_reserved.false) c.lookup_entry.ensures
+    rw (← passes.ensures, if1.false, ← function-answer c.args.source.now.sections c.args.source.now.file.now c.args.target.now is-function-name.ensures, if2.false, ← c.is_reserved.ensures, c.if-is_reserved.false) c.lookup_entry.ensures

@@ -3,8 +3,8 @@ use Rattle.story.proofs.Opening.{opened-in-order}
 use Rattle.story.proofs.Answers.{trailer-refused, sections-refused, file-read}
 use Rattle.story.proofs.read.Goals as goal
 
-pub read_sections-requires : goal.read_sections-requires
-read_sections-requires c = opened-in-order c.args.file.now c.in-Ok.c c.read_trailer.ensures c.in-Ok.is
+pub invariant_of-view : goal.invariant_of-view
+invariant_of-view c = record { in_order = opened-in-order c.args.file.now c.in-Ok.c c.read_trailer.ensures c.in-Ok.is }
 
 pub returns-in-Err : goal.returns-in-Err
 returns-in-Err c = trailer-refused c.args.file.now c.args.items.now c.read_trailer.ensures c.in-Err.is c.refused.ensures

@@ -1,7 +1,5 @@
 -- `targets::put_end` meets its contract, by where the walk over the slots of the end stops. Assumes nothing.
-use native.Mathlib.Omega.{arith}
-use Rattle.targets.proofs.Gaining.{found-gained, exhausted-gained, vacant-room, vacant-gained}
-use borrow.Author.Rules.{rules}
+use Rattle.targets.proofs.Gaining.{found-gained, exhausted-gained, vacant-gained}
 use Rattle.targets.proofs.put_end.Goals as goal
 
 pub returns-in-Found : goal.returns-in-Found

@@ -1,7 +1,6 @@
 -- `validate_flows`. The loop's invariant: nothing is found before the flows from the place on, which can be read and are kept. Assumes nothing.
 use mathlib.Core.Path.{refl, sym, ◌∙◌}
 use native.Mathlib.Omega.{arith}
-use lib.ListN.{length-take}
 use Rattle.story.specs.Plain.{without_plain}
 use Rattle.story.specs.File.{story_in}
 use Rattle.context.proofs.Places.{flows-none, flows-first, flow-seen-ready, flows-after, flows-fewer, flows-ready-from}
@@ -34,9 +33,6 @@ returns-in-Some-validate_whole_flow c =
     let first = flows-first _ _ _ _ inv.ready c.flow_view.ensures _ c.in-Some.is in
     rw inv.quiet (each-found _ _ first (sym c.in-Some-validate_whole_flow.is ∙ c.validate_whole_flow.ensures))
 
-pub items_from-next-requires : goal.items_from-next-requires
-items_from-next-requires c = c.loop-v.invariant.ready.own.rising
-
 pub loop-v-smaller : goal.loop-v-smaller
 loop-v-smaller c = flows-fewer _ _ _ _ c.loop-v.invariant.ready c.flow_view.ensures _ c.in-Some.is
 
@@ -46,6 +42,6 @@ loop-v-preserved c =
     let told = c.flow_view.ensures in
     let first = flows-first _ _ _ _ inv.ready told _ c.in-Some.is in
     record {
-      ready = flows-ready-from c.items_from-next.ensures (flows-after _ _ _ _ inv.ready told _ c.in-Some.is);
+      ready = flows-ready-from c.items_from-rest.ensures (flows-after _ _ _ _ inv.ready told _ c.in-Some.is);
       quiet = inv.quiet ∙ each-passed _ _ first (sym c.in_default-validate_whole_flow.is ∙ c.validate_whole_flow.ensures);
     }

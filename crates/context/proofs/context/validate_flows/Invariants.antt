@@ -10,7 +10,7 @@ use Rattle.context.proofs.context.validate_flows.Given as goal
 
 abbrev pub invariant-loop-v : goal.invariant-loop-v
 invariant-loop-v l = record {
-  ready : FlowsReady l.index.story.source.file.now l.rest l.at l.index.story.source.sections.end;
+  ready : FlowsReady l.index.story.source.file.now l.rest.numbers.now l.at l.index.story.source.sections.end;
   quiet : found_runs (kept_story l.index.story.source.sections l.index.story.source.file.now) (each flow_runs (kept_story l.index.story.source.sections l.index.story.source.file.now).flows)
       ≡ found_runs (kept_story l.index.story.source.sections l.index.story.source.file.now) (each flow_runs (kept_flows l.index.story.source.file.now l.at l.index.story.source.sections.end));
 }

@@ -5,7 +5,7 @@ use Rattle.context.proofs.context.validate_whole_flow.Goals as goal
 
 pub put_declared-requires : goal.put_declared-requires
 put_declared-requires c =
-    record { params_in_bounds = rw c.knot_scope-scope.ensures (omega (arith, c.requires.params)); rising = c.requires.own.rising }
+    rw c.knot_scope-scope.ensures (omega (arith, c.requires.params))
 
 pub invariant_of-body : goal.invariant_of-body
 invariant_of-body c = record { ready = rw c.knot_scope-scope.ensures (knot_ready _ _ _ c.requires) }

@@ -1,10 +1,7 @@
 -- `enumerator::entries::write_entries` meets its contract: the entries are visited from an empty set on. Assumes nothing.
-use mathlib.Core.Path.{refl}
-use Rattle.sets.proofs.Clearing.{empty-reachable}
-use Rattle.targets.specs.Slots.{end_slots}
 use Rattle.enumerator.proofs.Entered.{entered}
 use Rattle.enumerator.proofs.entries.write_entries.Goals as goal
 
 pub returns : goal.returns
 returns c =
-    entered c.args.c c.clear.ensures c.enumerate.ensures
+    entered c.args.story.now.sections c.clear.ensures c.enumerate.ensures

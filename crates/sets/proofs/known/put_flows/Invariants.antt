@@ -6,7 +6,7 @@ use Rattle.sets.specs.Known.{FlowsPut}
 use Rattle.sets.proofs.known.put_flows.Given as goal
 
 abbrev pub invariant-loop-v : goal.invariant-loop-v
-invariant-loop-v l = (length l.set ≡ length l.initial.set) × FlowsPut l.file l.c l.initial.set l.set l.at
+invariant-loop-v l = (length l.set ≡ length l.initial.set) × FlowsPut l.source.file.now l.source.sections l.initial.set l.set l.at
 
 abbrev pub decreases-loop-v : goal.decreases-loop-v
-decreases-loop-v l = l.c.end - l.at
+decreases-loop-v l = l.source.sections.end - l.at

@@ -21,7 +21,7 @@ pub validate_flow-tally-requires : goal.validate_flow-tally-requires
 validate_flow-tally-requires c = flowing-ready c.requires c.loop-flow.invariant c.flow_view.ensures _ c.in-Some.is
 
 pub index_from-start-requires : goal.index_from-start-requires
-index_from-start-requires c = record { rising = c.loop-flow.invariant.readable.own.rising; start_bound = flowing-onward c.requires c.loop-flow.invariant c.flow_view.ensures _ c.in-Some.is }
+index_from-start-requires c = flowing-onward c.requires c.loop-flow.invariant c.flow_view.ensures _ c.in-Some.is
 
 pub loop-flow-smaller : goal.loop-flow-smaller
 loop-flow-smaller c = flows-fewer _ _ _ _ c.loop-flow.invariant.readable c.flow_view.ensures _ c.in-Some.is

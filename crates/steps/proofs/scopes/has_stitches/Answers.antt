@@ -1,10 +1,7 @@
--- `scopes::has_stitches` meets its contract: there is a view of the first. Assumes nothing.
-use Rattle.searches.proofs.Viewed.{stitch-viewed}
-use Rattle.steps.proofs.Seen.{no-stitches}
+-- `steps::scopes::has_stitches` meets its contract: there is a view of the first. Assumes nothing.
+use Rattle.std.proofs.Common.{◌∙◌}
+use Rattle.steps.proofs.Seen.{stitch-seen}
 use Rattle.steps.proofs.scopes.has_stitches.Goals as goal
 
-pub returns-in-Some : goal.returns-in-Some
-returns-in-Some c = rw (stitch-viewed _ _ _ _ c.stitch_view-view.ensures c.in-Some.is)
-
-pub returns-in-None : goal.returns-in-None
-returns-in-None c = rw (no-stitches _ _ _ c.requires c.stitch_view-view.ensures c.in-None.is)
+pub returns : goal.returns
+returns c = c.is_some.ensures ∙ stitch-seen _ _ _ c.requires _ c.stitch_view.ensures

@@ -12,28 +12,25 @@ use Rattle.symbols.proofs.entries.put_flow.Goals as goal
 
 pub visit-requires : goal.visit-requires
 visit-requires g c =
-    ready-first g.met.V.Visit.laws _ _ (flow-parts (kept_flow c.args.file.now c.args.kept.now c.args.v)) c.requires.ready
+    ready-first g.met.V.Visit.laws _ _ (flow-parts (kept_flow c.args.file.now c.args.kept.numbers.now c.args.v)) c.requires.ready
 
 pub put_params-requires : goal.put_params-requires
 put_params-requires g c =
     let ready = c.requires.ready in
-    let none = visiting-parts g.met.V.Visit.laws (flow-parts (kept_flow c.args.file.now c.args.kept.now c.args.v)) ready in
+    let none = visiting-parts g.met.V.Visit.laws (flow-parts (kept_flow c.args.file.now c.args.kept.numbers.now c.args.v)) ready in
     let title = visiting-many g.met.V.Visit.laws none refl c.visit.ensures in
     record { params_in_bounds = (c.requires.name_lt_params.1, c.requires.name_lt_params.2.short); ready = visiting-ready g.met.V.Visit.laws title _ _ refl ready }
 
 pub prefix_number-prefix-requires : goal.prefix_number-prefix-requires
 prefix_number-prefix-requires g c = omega (arith, c.requires.name_lt_params.0, c.requires.name_lt_params.1, c.requires.name_lt_params.2.short)
 
-pub body_items-own-requires : goal.body_items-own-requires
-body_items-own-requires g c = c.requires.stitches_kept.rising
-
 pub collect_labels_from_nodes-requires : goal.collect_labels_from_nodes-requires
 collect_labels_from_nodes-requires g c =
     let ready = c.requires.ready in
-    let none = visiting-parts g.met.V.Visit.laws (flow-parts (kept_flow c.args.file.now c.args.kept.now c.args.v)) ready in
+    let none = visiting-parts g.met.V.Visit.laws (flow-parts (kept_flow c.args.file.now c.args.kept.numbers.now c.args.v)) ready in
     let title = visiting-many g.met.V.Visit.laws none refl c.visit.ensures in
     let params = visiting-many g.met.V.Visit.laws title refl c.put_params.ensures in
-    let f = kept_flow c.args.file.now c.args.kept.now c.args.v in
+    let f = kept_flow c.args.file.now c.args.kept.numbers.now c.args.v in
     let e : labels_placed c.prefix_number-prefix.result absent (items_at c.args.file.now c.body_items-own.result.now) ≡ labels_placed (prefix_number f.name.bytes f.name.at) absent f.body
     = rw (c.prefix_number-prefix.ensures, c.body_items-own.ensures) in
     subst (λ (ps : List Places). g.V.Visit.ready c.put_params.new.visitor ps) (sym e) (visiting-ready g.met.V.Visit.laws params _ _ refl ready)
@@ -41,7 +38,7 @@ collect_labels_from_nodes-requires g c =
 pub put_stitches-requires : goal.put_stitches-requires
 put_stitches-requires g c =
     let ready = c.requires.ready in
-    let none = visiting-parts g.met.V.Visit.laws (flow-parts (kept_flow c.args.file.now c.args.kept.now c.args.v)) ready in
+    let none = visiting-parts g.met.V.Visit.laws (flow-parts (kept_flow c.args.file.now c.args.kept.numbers.now c.args.v)) ready in
     let title = visiting-many g.met.V.Visit.laws none refl c.visit.ensures in
     let params = visiting-many g.met.V.Visit.laws title refl c.put_params.ensures in
     let labels = visiting-many g.met.V.Visit.laws params refl (rw (c.prefix_number-prefix.ensures, c.body_items-own.ensures) at c.collect_labels_from_nodes.ensures) in record { name_in_bounds = (omega (arith, c.requires.name_lt_params.0, c.requires.name_lt_params.1), c.requires.name_lt_params.2); file_value = c.requires.file_value; stitches_kept = c.requires.stitches_kept; ready = visiting-ready g.met.V.Visit.laws labels _ _ refl ready }
@@ -49,7 +46,7 @@ put_stitches-requires g c =
 pub returns : goal.returns
 returns g c =
     let ready = c.requires.ready in
-    let none = visiting-parts g.met.V.Visit.laws (flow-parts (kept_flow c.args.file.now c.args.kept.now c.args.v)) ready in
+    let none = visiting-parts g.met.V.Visit.laws (flow-parts (kept_flow c.args.file.now c.args.kept.numbers.now c.args.v)) ready in
     let title = visiting-many g.met.V.Visit.laws none refl c.visit.ensures in
     let params = visiting-many g.met.V.Visit.laws title refl c.put_params.ensures in
     let labels = visiting-many g.met.V.Visit.laws params refl (rw (c.prefix_number-prefix.ensures, c.body_items-own.ensures) at c.collect_labels_from_nodes.ensures) in

@@ -38,9 +38,6 @@ put_flow-requires g c =
           c.requires.ready;
     }
 
-pub items_from-rest-requires : goal.items_from-rest-requires
-items_from-rest-requires g c = c.loop-v.invariant.1.1.rising
-
 pub loop-v-smaller : goal.loop-v-smaller
 loop-v-smaller g c =
     let l = flow-laid c.args.file.now c.loop-v.at c.args.end c.in-Some.v c.flow_view.ensures c.in-Some.is in omega (arith, c.loop-v.invariant.0)

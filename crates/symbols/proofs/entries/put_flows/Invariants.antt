@@ -16,7 +16,7 @@ use Rattle.symbols.proofs.entries.put_flows.Given as goal
 abbrev pub invariant-loop-v : goal.invariant-loop-v
 invariant-loop-v g l =
     ((l.at ≤ l.end))
-    × ((ends (flows (part l.at l.end l.file)) ≡ well) × FlowsKept l.file l.rest l.at l.end)
+    × ((ends (flows (part l.at l.end l.file)) ≡ well) × FlowsKept l.file l.rest.numbers.now l.at l.end)
     × Visiting g.V.Visit.visited l.initial.visitor (placed (each flow_entries (map flow_without_plain (flows_in l.from (part l.from l.end l.file))))) l.visitor (placed (each flow_entries (map flow_without_plain (flows_in l.at (part l.at l.end l.file)))))
 
 abbrev pub decreases-loop-v : goal.decreases-loop-v

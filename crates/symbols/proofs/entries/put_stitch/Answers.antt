@@ -10,22 +10,19 @@ use Rattle.symbols.proofs.entries.put_stitch.Goals as goal
 
 pub visit-requires : goal.visit-requires
 visit-requires g c =
-    ready-first g.met.V.Visit.laws _ _ (stitch-parts c.args.flow (kept_stitch c.args.file.now c.args.kept.now c.args.v)) c.requires.ready
+    ready-first g.met.V.Visit.laws _ _ (stitch-parts c.args.flow (kept_stitch c.args.file.now c.args.kept.numbers.now c.args.v)) c.requires.ready
 
 pub put_params-requires : goal.put_params-requires
 put_params-requires g c =
     let ready = c.requires.ready in
-    let none = visiting-parts g.met.V.Visit.laws (stitch-parts c.args.flow (kept_stitch c.args.file.now c.args.kept.now c.args.v)) ready in
+    let none = visiting-parts g.met.V.Visit.laws (stitch-parts c.args.flow (kept_stitch c.args.file.now c.args.kept.numbers.now c.args.v)) ready in
     let title = visiting-many g.met.V.Visit.laws none refl c.visit.ensures in
     record { params_in_bounds = (c.requires.name_lt_params.1, c.requires.name_lt_params.2); ready = visiting-ready g.met.V.Visit.laws title _ _ refl ready }
-
-pub body_items-body-requires : goal.body_items-body-requires
-body_items-body-requires g c = c.requires.rising
 
 pub collect_labels_from_nodes-requires : goal.collect_labels_from_nodes-requires
 collect_labels_from_nodes-requires g c =
     let ready = c.requires.ready in
-    let none = visiting-parts g.met.V.Visit.laws (stitch-parts c.args.flow (kept_stitch c.args.file.now c.args.kept.now c.args.v)) ready in
+    let none = visiting-parts g.met.V.Visit.laws (stitch-parts c.args.flow (kept_stitch c.args.file.now c.args.kept.numbers.now c.args.v)) ready in
     let title = visiting-many g.met.V.Visit.laws none refl c.visit.ensures in
     let params = visiting-many g.met.V.Visit.laws title refl c.put_params.ensures in
     subst (λ (b : List ℕ). g.V.Visit.ready c.put_params.new.visitor (labels_placed c.args.flow c.args.v.name (items_at c.args.file.now b))) (sym c.body_items-body.ensures)
@@ -34,7 +31,7 @@ collect_labels_from_nodes-requires g c =
 pub returns : goal.returns
 returns g c =
     let ready = c.requires.ready in
-    let none = visiting-parts g.met.V.Visit.laws (stitch-parts c.args.flow (kept_stitch c.args.file.now c.args.kept.now c.args.v)) ready in
+    let none = visiting-parts g.met.V.Visit.laws (stitch-parts c.args.flow (kept_stitch c.args.file.now c.args.kept.numbers.now c.args.v)) ready in
     let title = visiting-many g.met.V.Visit.laws none refl c.visit.ensures in
     let params = visiting-many g.met.V.Visit.laws title refl c.put_params.ensures in
     let labels = visiting-many g.met.V.Visit.laws params refl (rw c.body_items-body.ensures at c.collect_labels_from_nodes.ensures) in

@@ -34,14 +34,10 @@ put_stitch-requires g c =
     let view = c.stitch_view.ensures in
     let l = stitch-laid file loop.at c.args.v.end c.in-Some.s view c.in-Some.is in record {
       name_lt_params = (l.name, omega (arith, r.within), r.short);
-      rising = loop.invariant.1.1.rising;
       ready = visiting-ready g.met.V.Visit.laws loop.invariant.2 _ _
           (ap (each (stitch_placed c.args.v.name)) (stitches-plain file _ loop.at c.args.v.end loop.invariant.0 r.within r.short loop.invariant.1.0 loop.invariant.1.1 c.in-Some.s view c.in-Some.is))
           c.requires.ready;
     }
-
-pub items_from-rest-requires : goal.items_from-rest-requires
-items_from-rest-requires g c = c.loop-s.invariant.1.1.rising
 
 pub loop-s-smaller : goal.loop-s-smaller
 loop-s-smaller g c =

@@ -13,7 +13,7 @@ use Rattle.symbols.proofs.entries.put_stitches.Given as goal
 abbrev pub invariant-loop-s : goal.invariant-loop-s
 invariant-loop-s g l =
     ((l.at ≤ l.end))
-    × ((ends (stitches (part l.at l.end l.file)) ≡ well) × StitchesKept l.file l.rest l.at l.end)
+    × ((ends (stitches (part l.at l.end l.file)) ≡ well) × StitchesKept l.file l.rest.numbers.now l.at l.end)
     × Visiting g.V.Visit.visited l.initial.visitor (each (stitch_placed l.flow) (kept_stitches l.file l.initial.at l.end)) l.visitor (each (stitch_placed l.flow) (kept_stitches l.file l.at l.end))
 
 abbrev pub decreases-loop-s : goal.decreases-loop-s

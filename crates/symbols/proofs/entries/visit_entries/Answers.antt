@@ -20,53 +20,53 @@ use Rattle.symbols.proofs.entries.visit_entries.Goals as goal
 pub put_names-requires : goal.put_names-requires
 unfolding story_in without_plain
 put_names-requires g c =
-    let file = c.args.file.now in
-    let sections = c.args.c in
-    let r = readable file sections refl c.requires.kept.read in
+    let file = c.args.story.now.file.now in
+    let sections = c.args.story.now.sections in
+    let r = readable file sections refl c.args.story.now.numbers_kept.read in
     let o = r.order in
     let names = section-names file sections.externals (omega arith) in
-    let ready = c.requires.ready in
+    let ready = c.requires in
     record { end_in_bounds = omega arith; ready = rw names (ready-first g.met.V.Visit.laws _ _ (story-parts (story_in sections file) (story-unlabelled sections file)) ready) }
 
-pub body_items-own-requires : goal.body_items-own-requires
-body_items-own-requires g c = kept-rising c.requires.kept
+pub invariant_of-kept : goal.invariant_of-kept
+invariant_of-kept g c = record { rising = kept-rising c.args.story.now.numbers_kept }
 
 pub collect_labels_from_nodes-requires : goal.collect_labels_from_nodes-requires
 unfolding story_in without_plain
 collect_labels_from_nodes-requires g c =
-    let file = c.args.file.now in
-    let sections = c.args.c in
-    let r = readable file sections refl c.requires.kept.read in
+    let file = c.args.story.now.file.now in
+    let sections = c.args.story.now.sections in
+    let r = readable file sections refl c.args.story.now.numbers_kept.read in
     let o = r.order in
     let names = section-names file sections.externals (omega arith) in
-    let ready = c.requires.ready in
+    let ready = c.requires in
     let none = visiting-parts g.met.V.Visit.laws (story-parts (story_in sections file) (story-unlabelled sections file)) ready in
     let globals = visiting-many g.met.V.Visit.laws none refl (rw names at c.put_names.ensures) in
-    subst (λ (b : List Item). g.V.Visit.ready c.put_names.new.visitor (labels_placed absent absent b)) (sym (ap (items_at file) c.body_items-own.ensures ∙ root-plain c.requires.kept))
+    subst (λ (b : List Item). g.V.Visit.ready c.put_names.new.visitor (labels_placed absent absent b)) (sym (ap (items_at file) c.body_items-own.ensures ∙ root-plain c.args.story.now.numbers_kept))
     (visiting-ready g.met.V.Visit.laws globals _ _ refl ready)
 
 pub put_flows-requires : goal.put_flows-requires
 unfolding story_in without_plain
 put_flows-requires g c =
-    let file = c.args.file.now in
-    let sections = c.args.c in
-    let r = readable file sections refl c.requires.kept.read in
+    let file = c.args.story.now.file.now in
+    let sections = c.args.story.now.sections in
+    let r = readable file sections refl c.args.story.now.numbers_kept.read in
     let o = r.order in
     let names = section-names file sections.externals (omega arith) in
-    let ready = c.requires.ready in
+    let ready = c.requires in
     let none = visiting-parts g.met.V.Visit.laws (story-parts (story_in sections file) (story-unlabelled sections file)) ready in
     let globals = visiting-many g.met.V.Visit.laws none refl (rw names at c.put_names.ensures) in
-    let root = visiting-many g.met.V.Visit.laws globals refl (rw (ap (items_at file) c.body_items-own.ensures ∙ root-plain c.requires.kept) at c.collect_labels_from_nodes.ensures) in record { range = record { ordered = o.flows; within = omega arith; short = o.short }; file_value = r.flows; flows_kept = kept-flows c.requires.kept; ready = visiting-ready g.met.V.Visit.laws root _ _ refl ready }
+    let root = visiting-many g.met.V.Visit.laws globals refl (rw (ap (items_at file) c.body_items-own.ensures ∙ root-plain c.args.story.now.numbers_kept) at c.collect_labels_from_nodes.ensures) in record { range = record { ordered = o.flows; within = omega arith; short = o.short }; file_value = r.flows; flows_kept = kept-flows c.args.story.now.numbers_kept; ready = visiting-ready g.met.V.Visit.laws root _ _ refl ready }
 
 pub returns : goal.returns
 unfolding story_in without_plain
 returns g c =
-    let file = c.args.file.now in
-    let sections = c.args.c in
-    let r = readable file sections refl c.requires.kept.read in
+    let file = c.args.story.now.file.now in
+    let sections = c.args.story.now.sections in
+    let r = readable file sections refl c.args.story.now.numbers_kept.read in
     let o = r.order in
     let names = section-names file sections.externals (omega arith) in
-    let none = visiting-parts g.met.V.Visit.laws (story-parts (story_in sections file) (story-unlabelled sections file)) c.requires.ready in
+    let none = visiting-parts g.met.V.Visit.laws (story-parts (story_in sections file) (story-unlabelled sections file)) c.requires in
     let globals = visiting-many g.met.V.Visit.laws none refl (rw names at c.put_names.ensures) in
-    let root = visiting-many g.met.V.Visit.laws globals refl (rw (ap (items_at file) c.body_items-own.ensures ∙ root-plain c.requires.kept) at c.collect_labels_from_nodes.ensures) in
+    let root = visiting-many g.met.V.Visit.laws globals refl (rw (ap (items_at file) c.body_items-own.ensures ∙ root-plain c.args.story.now.numbers_kept) at c.collect_labels_from_nodes.ensures) in
     visiting-end g.met.V.Visit.laws (visiting-many g.met.V.Visit.laws root refl c.put_flows.ensures) refl

@@ -6,8 +6,8 @@ use Rattle.tables.proofs.functions.is_function_in.Goals as goal
 
 pub returns-in-Found : goal.returns-in-Found
 returns-in-Found c =
-    sought-found c.args.file.now _ c.args.name.now c.requires.functions c.seek_name-found.ensures c.in-Found.is
+    sought-found c.args.source.now.file.now _ c.args.name.now c.requires c.seek_name-found.ensures c.in-Found.is
 
 pub returns-in-Vacant : goal.returns-in-Vacant
 returns-in-Vacant c =
-    sought-vacant c.args.file.now _ c.args.name.now c.requires.functions c.seek_name-found.ensures (omega arith) c.in-Vacant.is
+    sought-vacant c.args.source.now.file.now _ c.args.name.now c.requires c.seek_name-found.ensures (omega arith) c.in-Vacant.is

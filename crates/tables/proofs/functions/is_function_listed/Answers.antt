@@ -4,4 +4,4 @@ use Rattle.tables.proofs.functions.is_function_listed.Goals as goal
 
 pub returns : goal.returns
 returns c =
-    listed c.args.file.now c.args.c c.args.name.now c.is_function_name.ensures
+    listed c.args.source.now.file.now c.args.source.now.sections c.args.name.now c.is_function_name.ensures

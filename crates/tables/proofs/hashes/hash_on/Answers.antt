@@ -1,6 +1,6 @@
 -- `tables::hashes::hash_on` meets its contract. Assumes nothing.
 use native.Mathlib.Omega.{arith}
-use Rattle.tables.proofs.Hashing.{hashing-start, hashing-next, hashing-end}
+use Rattle.tables.proofs.Hashing.{hashing-next, hashing-end}
 use Rattle.tables.proofs.hashes.hash_on.Goals as goal
 
 pub loop-byte-preserved : goal.loop-byte-preserved

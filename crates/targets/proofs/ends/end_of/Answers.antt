@@ -1,6 +1,6 @@
 -- `targets::ends::end_of` meets its contract. The loop's invariant: what follows the dots of the word follows those left of the rest. Assumes nothing.
 use native.Mathlib.Omega.{arith}
-use Rattle.targets.proofs.Dotted.{passing-start, passing-end, passing-short, passing-dot, passing-other, cut-shorter}
+use Rattle.targets.proofs.Dotted.{passing-end, passing-short, passing-dot, passing-other}
 use Rattle.targets.proofs.ends.end_of.Goals as goal
 use Rattle.targets.proofs.ends.end_of.Goals.{then-rest-eq46, else-rest-eq46}
 

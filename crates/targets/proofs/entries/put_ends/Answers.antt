@@ -1,7 +1,7 @@
 -- `targets::entries::put_ends` meets its contract. Assumes nothing.
-use Rattle.std.proofs.Common.{arith, refl, ap}
+use Rattle.std.proofs.Common.{arith, ap}
 use Rattle.std.specs.Prelude.{is_err}
-use Rattle.targets.proofs.Gaining.{ends-start, ends_next, ends-stop, ends-many, ends-end}
+use Rattle.targets.proofs.Gaining.{ends_next, ends-stop, ends-many, ends-end}
 use Rattle.targets.proofs.entries.put_ends.Goals as goal
 
 pub returns-then-d-eq16 : goal.returns-then-d-eq16

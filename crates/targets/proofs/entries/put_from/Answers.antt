@@ -1,5 +1,5 @@
 -- `targets::entries::put_from` meets its contract. Assumes nothing.
-use Rattle.targets.proofs.Filling.{place-fits, from-none, from_some}
+use Rattle.targets.proofs.Filling.{from-none, from_some}
 use Rattle.targets.proofs.entries.put_from.Goals as goal
 
 pub returns-then-at-eq-ABSENT : goal.returns-then-at-eq-ABSENT

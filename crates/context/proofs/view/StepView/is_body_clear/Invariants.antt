@@ -7,6 +7,6 @@ use Rattle.context.proofs.view.StepView.is_body_clear.Given as goal
 
 abbrev pub invariant-loop-i : goal.invariant-loop-i
 invariant-loop-i l = record {
-  unbroken : Unbroken (known_in l.self.index.story.source.sections l.self.place.body.file.now) (here_at l.self.place.body.file.now l.self.place.body.kept.now l.self.place.body.scope) l.passes (kept_in l.self.place.body.file.now l.self.place.body.kept.now l.self.place.body.scope.from l.self.place.body.scope.to) l.i;
-  gathered : Gathered l.self.place.body.file.now l.self.place.body.kept.now l.self.place.body.scope.from l.self.place.body.scope.to l.i l.gathers;
+  unbroken : Unbroken (known_in l.self.index.story.source.sections l.self.place.body.file.now) (here_at l.self.place.body.file.now l.self.place.body.kept.numbers.now l.self.place.body.scope) l.passes (kept_in l.self.place.body.file.now l.self.place.body.kept.numbers.now l.self.place.body.scope.from l.self.place.body.scope.to) l.i;
+  gathered : Gathered l.self.place.body.file.now l.self.place.body.kept.numbers.now l.self.place.body.scope.from l.self.place.body.scope.to l.i l.gathers;
 }

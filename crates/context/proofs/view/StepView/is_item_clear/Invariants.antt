@@ -7,4 +7,4 @@ use Rattle.context.proofs.Clear.{Passing}
 use Rattle.context.proofs.view.StepView.is_item_clear.Given as goal
 
 abbrev pub invariant-loop-pass : goal.invariant-loop-pass
-invariant-loop-pass l = Passing (known_in l.self.index.story.source.sections l.self.place.body.file.now) (here_at l.self.place.body.file.now l.self.place.body.kept.now l.self.place.body.scope) (take l.slot.number (whats (kept_in l.self.place.body.file.now l.self.place.body.kept.now l.self.place.body.scope.from l.self.place.body.scope.to))) (what_at l.self.place.body.file.now l.slot) l.passes l.pass-index
+invariant-loop-pass l = Passing (known_in l.self.index.story.source.sections l.self.place.body.file.now) (here_at l.self.place.body.file.now l.self.place.body.kept.numbers.now l.self.place.body.scope) (take l.slot.number (whats (kept_in l.self.place.body.file.now l.self.place.body.kept.numbers.now l.self.place.body.scope.from l.self.place.body.scope.to))) (what_at l.self.place.body.file.now l.slot) l.passes l.pass-index

@@ -6,4 +6,4 @@ use Rattle.context.proofs.Walks.{Clean}
 use Rattle.context.proofs.view.StepView.validate_nodes.Given as goal
 
 abbrev pub invariant-loop-i : goal.invariant-loop-i
-invariant-loop-i l = Clean (known_in l.self.index.story.source.sections l.self.place.body.file.now) (here_at l.self.place.body.file.now l.self.place.body.kept.now l.self.place.body.scope) l.self.place.body.scope.flow (rules_of l.pass) (kept_in l.self.place.body.file.now l.self.place.body.kept.now l.self.place.body.scope.from l.self.place.body.scope.to) l.i
+invariant-loop-i l = Clean (known_in l.self.index.story.source.sections l.self.place.body.file.now) (here_at l.self.place.body.file.now l.self.place.body.kept.numbers.now l.self.place.body.scope) l.self.place.body.scope.flow (rules_of l.pass) (kept_in l.self.place.body.file.now l.self.place.body.kept.numbers.now l.self.place.body.scope.from l.self.place.body.scope.to) l.i

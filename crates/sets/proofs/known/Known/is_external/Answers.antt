@@ -9,4 +9,4 @@ returns-then-has c =
 
 pub returns-else-has : goal.returns-else-has
 returns-else-has c =
-    section-left c.args.self.now.file.now c.args.self.now.rest.externals c.args.self.now.sections.root c.args.self.now.names_in.externals c.args.name.now c.has.ensures c.if-has.false c.section_has_name.ensures
+    section-left c.args.self.now.source.file.now c.args.self.now.rest.externals c.args.self.now.source.sections.root c.args.self.now.names_in.externals c.args.name.now c.has.ensures c.if-has.false c.section_has_name.ensures

@@ -1,8 +1,5 @@
 -- `steps::bodies::Body::validate_steps` meets its contract. Assumes nothing.
-use Rattle.std.proofs.Common.{arith, ap, refl, length}
-use Rattle.std.proofs.lemmas.List.{length-map}
 use Rattle.items.proofs.Standing.{kept-names-stand}
-use Rattle.steps.specs.Brackets.{step_of}
 use Rattle.steps.proofs.Next.{drop-next}
 use Rattle.steps.proofs.Coursing.{coursing-next, coursing-end, coursing-full}
 use Rattle.steps.proofs.bodies.Body.validate_steps.Goals as goal
@@ -15,8 +12,8 @@ returns-then-is_full c = λ s h. coursing-full c.loop-step.invariant s h c.is_fu
 
 pub loop-step-preserved : goal.loop-step-preserved
 loop-step-preserved c =
-    coursing-next c.loop-step.invariant c.steps-steps.result.now c.steps-steps.ensures (drop-next _ _ _ c.loop-step-test.true) (omega (arith, ap length c.steps-steps.ensures, length-map c.steps-steps.result.now step_of))
-    (rw c.turn_at-turn.ensures at c.validate_nodes-tally.ensures.list_after) (rw c.turn_at-turn.ensures at c.validate_nodes-tally.ensures.body_unchanged) refl
+    coursing-next c.loop-step.invariant c.args.self.now.gathers_last (drop-next _ _ _ c.loop-step-test.true) c.loop-step-test.true
+    (rw c.turn_at-turn.ensures at c.validate_nodes-tally.ensures.list_after) (rw c.turn_at-turn.ensures at c.validate_nodes-tally.ensures.body_unchanged)
 
 pub returns : goal.returns
-returns c = λ s h. coursing-end c.loop-step.invariant s h (omega (arith, ap length c.steps-steps.ensures, length-map c.steps-steps.result.now step_of))
+returns c = λ s h. coursing-end c.loop-step.invariant s h c.loop-step-test.false

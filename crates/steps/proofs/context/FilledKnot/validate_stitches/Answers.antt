@@ -15,7 +15,7 @@ pub validate_stitch-tally-requires : goal.validate_stitch-tally-requires
 validate_stitch-tally-requires c = stitching-ready c.args.self.now.ready c.loop-w.invariant c.stitch_view.ensures _ c.in-Some.is
 
 pub index_from-start-requires : goal.index_from-start-requires
-index_from-start-requires c = record { rising = c.args.self.now.ready.flow_ready.own.rising; start_bound = stitching-onward c.args.self.now.ready c.loop-w.invariant c.stitch_view.ensures _ c.in-Some.is }
+index_from-start-requires c = stitching-onward c.args.self.now.ready c.loop-w.invariant c.stitch_view.ensures _ c.in-Some.is
 
 pub loop-w-smaller : goal.loop-w-smaller
 loop-w-smaller c = stitches-fewer _ _ _ c.loop-w.invariant.readable c.stitch_view.ensures _ c.in-Some.is

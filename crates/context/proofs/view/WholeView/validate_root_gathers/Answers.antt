@@ -2,10 +2,10 @@
 use mathlib.Core.Path.{refl}
 use Rattle.filters.proofs.Bodies.{declared-none}
 use Rattle.context.proofs.Places.{root-ready}
-use Rattle.context.proofs.context.validate_root_gathers.Goals as goal
+use Rattle.context.proofs.view.WholeView.validate_root_gathers.Goals as goal
 
 pub invariant_of-body : goal.invariant_of-body
-invariant_of-body c = record { ready = rw c.root_scope-scope.ensures (root-ready c.requires c.args.index.now.story.source.in_order) }
+invariant_of-body c = record { ready = rw c.root_scope-scope.ensures (root-ready c.args.self.now.numbers_kept c.args.self.now.index.story.source.in_order) }
 
 pub invariant_of-place : goal.invariant_of-place
 invariant_of-place c = record { covers = declared-none _ refl }

@@ -1,14 +1,13 @@
 -- `validate_root`: the filter has the root's labels, and the passes find what they find at the root. Assumes nothing.
 use native.Mathlib.Omega.{arith}
-use Rattle.items.proofs.Kept.{kept-rising}
 use Rattle.context.proofs.Places.{root-ready}
-use Rattle.context.proofs.context.validate_root.Goals as goal
+use Rattle.context.proofs.view.WholeView.validate_root.Goals as goal
 
 pub put_declared-requires : goal.put_declared-requires
-put_declared-requires c = record { params_in_bounds = rw c.root_scope-scope.ensures (omega arith); rising = kept-rising c.requires }
+put_declared-requires c = rw c.root_scope-scope.ensures (omega arith)
 
 pub invariant_of-body : goal.invariant_of-body
-invariant_of-body c = record { ready = rw c.root_scope-scope.ensures (root-ready c.requires c.args.index.now.story.source.in_order) }
+invariant_of-body c = record { ready = rw c.root_scope-scope.ensures (root-ready c.args.self.now.numbers_kept c.args.self.now.index.story.source.in_order) }
 
 pub invariant_of-place : goal.invariant_of-place
 invariant_of-place c = record { covers = c.put_declared.ensures }
