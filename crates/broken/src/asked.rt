@@ -4,9 +4,10 @@ ghost use Rattle.records.specs.Items.{What};
 ghost use Rattle.broken.specs.Things.{ThingIs};
 ghost use Rattle.broken.specs.Scopes.{broken_at, NamesReady, TargetsReady, ScopeReady, Ready};
 
-use crate::{At, Rests, Scope, StoryView};
+use crate::{At, Site, StoryView};
 use rules::Rule;
 use sets::known::Known;
+use sets::members::NamedItems;
 use story::FileView;
 
 // A story at hand: its file, its kept items, the sets of its names and of its targets, and what it has in no set. The sets are filled.
@@ -39,6 +40,17 @@ impl<'a> Story<'a> {
             rest: self.view.names,
         }
     }
+
+    // The kept items of the story.
+    pub fn items(&self) -> NamedItems<'a>
+        ensures file { result.file.now ≡ self.now.file.now }
+        ensures items { result.items.now ≡ self.now.kept.now }
+    {
+        NamedItems {
+            file: self.file,
+            items: self.kept,
+        }
+    }
 }
 
 // The root, the flow or the stitch at hand: its runs, which stand within the kept items of the file, and what of them is in no set.
@@ -46,9 +58,8 @@ impl<'a> Story<'a> {
 pub struct Here<'a> {
     pub file: &'a [u8],
     pub kept: &'a [u32],
-    pub scope: Scope,
-    pub rests: Rests,
-    pub ghost ready: { ScopeReady file.now kept.now scope },
+    pub site: Site,
+    pub ghost ready: { ScopeReady file.now kept.now site.scope },
 }
 
 // What the rules may ask at a thing: the story, the sets of the knot and of the body, and where the thing stands. All of it is ready.
@@ -58,7 +69,7 @@ pub struct Asked<'a, 'b> {
     pub knot: &'a [u32],
     pub body: &'a [u32],
     pub at: At,
-    pub ghost ready: { Ready story.now.file.now story.now.kept.now knot.now body.now at },
+    pub ghost ready: { Ready story.now.file.now story.now.kept.now knot.now body.now at.site at.number },
 }
 
 impl Asked<'_, '_> {
@@ -69,16 +80,15 @@ impl Asked<'_, '_> {
         let story = self.story;
         let known = story.known();
         let At {
-            scope,
-            rests,
+            site,
             thing,
             number,
         } = self.at;
+        let scope = site.scope;
         let here = Here {
             file: story.file,
             kept: story.kept,
-            scope,
-            rests,
+            site,
         };
         match rule {
             Rule::FunctionDivertedTo => thing.is_function_diverted_to(&known),

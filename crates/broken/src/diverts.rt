@@ -1,7 +1,7 @@
 // Targets, calls and variable diverts: rules 1, 2, 3, 8 and 9 (diverts.rs).
 #![tactic(auto, using(crate::proofs::Answered::names_asked), unfolding(rules::specs::Rules::broken, crate::specs::Scopes::here_in))]
 
-ghost use Rattle.std.specs.Prelude.{◌≡◌, ◌≤◌, List, ℕ, length};
+ghost use Rattle.std.specs.Prelude.{◌≡◌, List, ℕ};
 ghost use Rattle.records.specs.Items.{What};
 ghost use Rattle.rules.specs.declared.Rule.TheVariants as Rule;
 ghost use Rattle.rules.specs.Rules as rules;
@@ -10,10 +10,11 @@ ghost use Rattle.broken.specs.Things.{ThingIs};
 ghost use Rattle.broken.specs.Scopes.{known_in, here_in};
 
 use crate::asked::Story;
-use crate::known::{call_passes, is_counted, is_target};
+use crate::known::{call_passes, is_target};
 use crate::{Scope, Thing};
 use names::{name_at, passes};
 use records::sorts::Sort;
+use searches::is_counted;
 use sets::known::Known;
 
 impl Thing {
@@ -54,7 +55,6 @@ impl Thing {
 
     // Rule 8: a target that is a parameter without divert mark.
     pub fn is_parameter_unmarked(&self, file: &[u8], scope: Scope) -> bool
-        requires { (scope.params ≤ length file.now) × (scope.marks ≤ length file.now) }
         ensures { (k : rules.Known) (kept : List ℕ) (before : List What) (w : What) → ThingIs file.now self.now w → result ≡ broken k (here_in file.now kept scope) before Rule.ParameterUnmarked w }
     {
         if self.has_target() {
@@ -66,7 +66,6 @@ impl Thing {
 
     // Rule 9: an argument that is directly a DivertTarget of a divert parameter.
     pub fn is_parameter_already_marked(&self, file: &[u8], scope: Scope) -> bool
-        requires { scope.marks ≤ length file.now }
         ensures { (k : rules.Known) (kept : List ℕ) (before : List What) (w : What) → ThingIs file.now self.now w → result ≡ broken k (here_in file.now kept scope) before Rule.ParameterAlreadyMarked w }
     {
         self.is(Sort::Argument) && is_counted(file, scope.marks, name_at(file, self.name))

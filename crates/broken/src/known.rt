@@ -1,22 +1,15 @@
-// Names as the rules ask for them: those that a count byte counts, the words that may be called, and the targets of the whole story.
-ghost use Rattle.std.specs.Prelude.{◌≡◌, ◌≤◌, length};
+// Names as the rules ask for them: the words that may be called, and the targets of the whole story.
+ghost use Rattle.std.specs.Prelude.{◌≡◌};
 ghost use Rattle.rules.specs.Rules.{call_passes};
-ghost use Rattle.broken.specs.Scopes.{known_in, counted_at, TargetsReady};
+ghost use Rattle.broken.specs.Scopes.{known_in, TargetsReady};
 
 use crate::StoryView;
 use enumerator::entries::has_target;
 use items::files::KeptFile;
+use items::runs::KeptNumbers;
 use names::{is_builtin_function, is_reserved};
-use searches::counted_has_name;
 use sets::known::Known;
-
-// The name is one of those that the count byte at the place counts.
-pub fn is_counted(file: &[u8], at: usize, name: &[u8]) -> bool
-    requires { at ≤ length file.now }
-    ensures { result ≡ counted_at file.now at name.now }
-{
-    counted_has_name(&file[at..], name)
-}
+use story::FileView;
 
 // A call name passes if it is a function's, an external's or one of the 21 words.
 #[tactic(auto, using(crate::proofs::Answered::names_asked))]
@@ -27,7 +20,13 @@ pub fn call_passes(known: &Known<'_>, name: &[u8]) -> bool
 }
 
 // The target is valid, or some spelling ends in "." and the target: by the set, or by going through the entries where one is not in it.
-pub fn is_target(file: &[u8], kept: &[u32], targets: &[u64], v: StoryView, target: &[u8]) -> bool
+pub fn is_target<'a>(
+    file: &'a [u8],
+    kept: &'a [u32],
+    targets: &[u64],
+    v: StoryView,
+    target: &[u8],
+) -> bool
     requires { TargetsReady file.now v kept.now targets.now }
     ensures { result ≡ (known_in v.sections file.now).target target.now }
 {
@@ -38,11 +37,12 @@ pub fn is_target(file: &[u8], kept: &[u32], targets: &[u64], v: StoryView, targe
         return true;
     }
     if v.left {
-        let story = KeptFile {
+        let source = FileView {
             file,
             sections: v.sections,
-            kept,
         };
+        let kept = KeptNumbers { numbers: kept };
+        let story = KeptFile { source, kept };
         return has_target(&story, target);
     }
     false

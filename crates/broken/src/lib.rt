@@ -38,7 +38,7 @@ pub struct Scope {
 }
 
 // The numbers of the items from which on the names are in no set: the knot's labels and temps, the body's temps and its gathers so far.
-#[derive(Clone, Copy)]
+#[derive(Clone, Copy, Default)]
 pub struct Rests {
     pub labels: usize,
     pub temps: usize,
@@ -55,11 +55,17 @@ pub struct Thing {
     pub leaves: bool,
 }
 
-// A thing that a step visits, with all that a rule may ask: how many items of the body stand before it.
+// The site of a step: where it runs, and the items from which on the names are in no set.
 #[derive(Clone, Copy)]
-pub struct At {
+pub struct Site {
     pub scope: Scope,
     pub rests: Rests,
+}
+
+// A thing that a step visits, with all that a rule may ask: the site, and how many items of the body stand before it.
+#[derive(Clone, Copy)]
+pub struct At {
+    pub site: Site,
     pub thing: Thing,
     pub number: usize,
 }

@@ -1,7 +1,7 @@
 // Names, labels, gathers, choices and functions: rules 4 to 7 and 10 to 14 (structure.rs).
 #![tactic(auto, using(crate::proofs::Answered::names_asked), unfolding(rules::specs::Rules::broken, crate::specs::Scopes::here_in))]
 
-ghost use Rattle.std.specs.Prelude.{◌≡◌, ◌≤◌, List, ℕ, length, take};
+ghost use Rattle.std.specs.Prelude.{◌≡◌, List, ℕ, take};
 ghost use Rattle.records.specs.Items.{What};
 ghost use Rattle.story.specs.Story.{whats};
 ghost use Rattle.items.specs.Bodies.{items_at};
@@ -12,11 +12,11 @@ ghost use Rattle.broken.specs.Things.{ThingIs};
 ghost use Rattle.broken.specs.Scopes.{known_in, here_in, body_run, KnotSet, BodySet};
 
 use crate::asked::Here;
-use crate::known::is_counted;
 use crate::{Scope, Thing};
 use items::named::Sought;
 use names::{is_end_or_done, name_at};
 use records::sorts::Sort;
+use searches::is_counted;
 use sets::Class;
 use sets::known::Known;
 use sets::members::Among;
@@ -40,7 +40,6 @@ impl Thing {
 
     // Rule 6: a temp with a parameter's name.
     pub fn is_temp_parameter(&self, file: &[u8], scope: Scope) -> bool
-        requires { scope.params ≤ length file.now }
         ensures { (k : rules.Known) (kept : List ℕ) (before : List What) (w : What) → ThingIs file.now self.now w → result ≡ broken k (here_in file.now kept scope) before Rule.TempIsParameter w }
     {
         self.is(Sort::Temp) && is_counted(file, scope.params, name_at(file, self.name))
@@ -79,19 +78,19 @@ impl Here<'_> {
     // Rule 7: a temp with a label's name.
     #[tactic(auto, using(crate::proofs::Among::labels_among), unfolding(rules::specs::Rules::broken, crate::specs::Scopes::here_in, story::specs::Flows::part))]
     pub fn is_temp_label(&self, knot: &[u32], t: Thing) -> bool
-        requires { KnotSet self.now.file.now self.now.kept.now self.now.scope self.now.rests knot.now }
-        ensures { (k : rules.Known) (before : List What) (w : What) → ThingIs self.now.file.now t w → result ≡ broken k (here_in self.now.file.now self.now.kept.now self.now.scope) before Rule.TempIsLabel w }
+        requires { KnotSet self.now.file.now self.now.kept.now self.now.site knot.now }
+        ensures { (k : rules.Known) (before : List What) (w : What) → ThingIs self.now.file.now t w → result ≡ broken k (here_in self.now.file.now self.now.kept.now self.now.site.scope) before Rule.TempIsLabel w }
     {
         if t.is(Sort::Temp) {
-            let first = self.scope.knot;
-            let end = self.scope.end;
+            let first = self.site.scope.knot;
+            let end = self.site.scope.end;
             let items = &self.kept[first..end];
             let labels = Among {
                 sought: Sought::Label,
                 file: self.file,
                 items,
                 passed: items.len(),
-                rest: self.rests.labels,
+                rest: self.site.rests.labels,
                 class: Class::Label,
                 set: knot,
             };
@@ -103,18 +102,18 @@ impl Here<'_> {
     // Rule 10: a gather whose label another had earlier in the body, where so many items stand before it.
     #[tactic(auto, unfolding(rules::specs::Rules::broken, crate::specs::Scopes::here_in, story::specs::Flows::part))]
     pub fn is_gather_repeated(&self, body: &[u32], number: usize, t: Thing) -> bool
-        requires { BodySet self.now.file.now self.now.kept.now self.now.scope self.now.rests number body.now }
-        ensures { (k : rules.Known) (h : rules.Here) (w : What) → ThingIs self.now.file.now t w → result ≡ broken k h (take number (whats (items_at self.now.file.now (body_run self.now.kept.now self.now.scope)))) Rule.GatherRepeated w }
+        requires { BodySet self.now.file.now self.now.kept.now self.now.site number body.now }
+        ensures { (k : rules.Known) (h : rules.Here) (w : What) → ThingIs self.now.file.now t w → result ≡ broken k h (take number (whats (items_at self.now.file.now (body_run self.now.kept.now self.now.site.scope)))) Rule.GatherRepeated w }
     {
         if t.is(Sort::Gather) {
-            let first = self.scope.first;
-            let last = self.scope.last;
+            let first = self.site.scope.first;
+            let last = self.site.scope.last;
             let gathers = Among {
                 sought: Sought::Gather,
                 file: self.file,
                 items: &self.kept[first..last],
                 passed: number,
-                rest: self.rests.gathers,
+                rest: self.site.rests.gathers,
                 class: Class::Gather,
                 set: body,
             };

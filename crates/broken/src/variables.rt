@@ -12,10 +12,10 @@ ghost use Rattle.broken.specs.Scopes.{declared_in, here_in, KnotSet, BodySet};
 
 use crate::Thing;
 use crate::asked::Here;
-use crate::known::is_counted;
 use items::named::Sought;
 use names::name_at;
 use records::sorts::Sort;
+use searches::is_counted;
 use sets::Class;
 use sets::members::Among;
 
@@ -33,7 +33,7 @@ impl Here<'_> {
     // The name is a parameter or a temp that the flow or the stitch declares.
     #[tactic(auto, using(crate::proofs::Among::temps_among), unfolding(story::specs::Flows::part))]
     fn is_declared(&self, d: Declared<'_>, name: &[u8]) -> bool
-        requires params_in_bounds { (d.params ≤ length self.now.file.now) × (d.first ≤ d.last) × (d.last ≤ length self.now.kept.now) }
+        requires run_in_bounds { (d.first ≤ d.last) × (d.last ≤ length self.now.kept.now) }
         requires members { Members sought.Temp self.now.file.now 1 (part d.first d.last self.now.kept.now) (length (part d.first d.last self.now.kept.now)) d.set.now d.rest }
         ensures { result ≡ declared_in self.now.file.now self.now.kept.now d.entry.params d.entry.first d.entry.last name.now }
     {
@@ -56,13 +56,13 @@ impl Here<'_> {
     // Rule 15: a variable that the knot declares and the stitch does not.
     #[tactic(auto, unfolding(rules::specs::Rules::broken, crate::specs::Scopes::here_in))]
     pub fn is_variable_forbidden(&self, knot: &[u32], body: &[u32], number: usize, t: Thing) -> bool
-        requires knot_set { KnotSet self.now.file.now self.now.kept.now self.now.scope self.now.rests knot.now }
-        requires body_set { BodySet self.now.file.now self.now.kept.now self.now.scope self.now.rests number body.now }
-        ensures { (k : rules.Known) (before : List What) (w : What) → ThingIs self.now.file.now t w → result ≡ broken k (here_in self.now.file.now self.now.kept.now self.now.scope) before Rule.VariableForbidden w }
+        requires knot_set { KnotSet self.now.file.now self.now.kept.now self.now.site knot.now }
+        requires body_set { BodySet self.now.file.now self.now.kept.now self.now.site number body.now }
+        ensures { (k : rules.Known) (before : List What) (w : What) → ThingIs self.now.file.now t w → result ≡ broken k (here_in self.now.file.now self.now.kept.now self.now.site.scope) before Rule.VariableForbidden w }
     {
         if t.is(Sort::Variable) {
-            let s = self.scope;
-            let n = self.rests;
+            let s = self.site.scope;
+            let n = self.site.rests;
             let name = name_at(self.file, t.name);
             let of_knot = Declared {
                 params: s.outer,

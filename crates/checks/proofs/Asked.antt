@@ -18,7 +18,6 @@ use Rattle.searches.proofs.Answers.{section-answer, flows-answer}
 use Rattle.items.specs.Bodies.{kept_story}
 use Rattle.symbols.specs.Index.{spellings}
 use Rattle.symbols.specs.Fits.{answers}
-use Rattle.symbols.specs.Rows as rows
 use Rattle.rules.specs.Rules.{known}
 use Rattle.checks.specs.Context.{known_in}
 
@@ -62,6 +61,6 @@ module _ (file : List ℕ) (c : Sections) (n : Bytes) {b : Bool} (e : b ≡ one_
   unfolding known
   target_reserved t = or-found (any (ends (46 ∷ n)) (spellings (kept_story c file))) (or-found (one_of n (spellings (kept_story c file))) e t) refl
 
-  pub target_asked : b ≡ false → (index : List ℕ) (count : ℕ) → rows.spellings_in file count index ≡ spellings (kept_story c file) → {r : Bool} → r ≡ any (answers n) (rows.spellings_in file count index) → r ≡ (known_in c file).target n
+  pub target_asked : b ≡ false → {spelled : List Bytes} → spelled ≡ spellings (kept_story c file) → {r : Bool} → r ≡ any (answers n) spelled → r ≡ (known_in c file).target n
   unfolding known
-  target_asked f index count spelled g = rw (← e, f) (g ∙ rw spelled (any-answers n (spellings (kept_story c file))))
+  target_asked f told g = rw (← e, f) (g ∙ rw told (any-answers n (spellings (kept_story c file))))

@@ -1,5 +1,4 @@
 -- What the proofs of several functions use, and what crates above use.
 pub mod Cases
 pub mod Asked
-pub mod Stitches
 pub mod Recorded

@@ -1,14 +1,14 @@
 -- Where a step runs, as the code has it, and what holds while the steps run. Assumes nothing.
-use Rattle.std.specs.Prelude.{ℕ, ◌≤◌, ◌≡◌, Bool, true, not, ◌&&◌, ◌||◌, List, length, drop}
+use Rattle.std.specs.Prelude.{ℕ, ◌≤◌, ◌≡◌, Bool, true, not, ◌&&◌, ◌||◌, List, length}
 use Rattle.std.specs.Coded.{le_prop}
-use Rattle.names.specs.Words.{Bytes, any, one_of}
-use Rattle.records.specs.Trace.{well, ends}
+use Rattle.names.specs.Words.{Bytes, any}
 use Rattle.story.specs.declared.Sections.{Sections}
 use Rattle.records.specs.Items.{What}
-use Rattle.story.specs.Story.{Stitch, words}
-use Rattle.story.specs.Flows.{part, counted_in, pieces_in, stitch_in, stitches}
+use Rattle.story.specs.Story.{Stitch}
+use Rattle.story.specs.Flows.{part, pieces_in, stitch_in}
 use Rattle.story.specs.File.{InOrder}
 use Rattle.records.specs.Numbers.{item_in}
+use Rattle.searches.specs.Counted.{counted_at}
 use Rattle.items.specs.Bodies.{kept_in, Rising, rising_prop, kept_story}
 use Rattle.items.specs.Search.{label_in, temp_in}
 use Rattle.symbols.specs.Index.{spellings}
@@ -25,10 +25,6 @@ what_at file slot = (item_in file slot.item).what
 -- the names of the whole story in the file
 abbrev pub known_in : Sections → List ℕ → Known
 known_in c file = known (kept_story c file)
-
--- a name of those that the count byte at the place counts
-abbrev pub counted_at : List ℕ → ℕ → Bytes → Bool
-counted_at file at n = one_of n (words (counted_in at (drop at file)))
 
 -- a parameter or a temp of the flow or the stitch with these parameters and this body
 abbrev pub declared_at : List ℕ → List ℕ → ℕ → ℕ → ℕ → Bytes → Bool
@@ -49,13 +45,6 @@ pub record Ready (file : List ℕ) (c : Sections) (index : List ℕ) (count : �
   pub sections : InOrder c file
   pub spelled : rows.spellings_in file count index ≡ spellings (kept_story c file)
   pub functions_known : Functions file c functions
-
--- the stitches from the place on to the end lie within the file and can be read
-pub record StitchesReady (file : List ℕ) (at end : ℕ) : Type 0 where
-  pub ordered : at ≤ end
-  pub within : end ≤ length file
-  pub short : length file ≤ 1048576
-  pub good : ends (stitches (part at end file)) ≡ well
 
 -- the names of the flow or the stitch, and those of its knot, stand within the file, and the places of the kept numbers rise
 pub record ScopeReady (file kept : List ℕ) (v : ScopeView) : Type 0 where

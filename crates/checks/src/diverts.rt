@@ -1,5 +1,5 @@
 // Targets, calls and variable diverts: rules 1, 2, 3, 8 and 9 (diverts.rs).
-ghost use Rattle.std.specs.Prelude.{◌≡◌, List, ℕ, ◌≤◌, length};
+ghost use Rattle.std.specs.Prelude.{◌≡◌, List, ℕ};
 ghost use Rattle.records.specs.Items.{What};
 ghost use Rattle.records.specs.Numbers.{item_in};
 ghost use Rattle.rules.specs.Rules.{Known, Here};
@@ -9,13 +9,13 @@ ghost use Rattle.checks.specs.Context.{known_in, here_at};
 
 use crate::ScopeView;
 use crate::known::{is_external, is_flow};
-use crate::parameters::is_counted;
 use crate::structure::{has_target, is_sort};
 use crate::view::{IndexView, StoryView};
 use items::items::item_name;
 use names::{is_builtin_function, passes};
 use records::sorts::Sort;
 use rules::Rule;
+use searches::is_counted;
 
 impl IndexView<'_> {
     // A target: rules 1 and 2.
@@ -75,7 +75,6 @@ impl StoryView<'_> {
 // A target that may be a parameter: rule 8.
 #[tactic(auto, unfolding(crate::specs::Context::here_at))]
 fn check_variable_divert_target(file: &[u8], scope: ScopeView, target: &[u8]) -> Option<Rule>
-    requires { (scope.params ≤ length file.now) × (scope.marks ≤ length file.now) }
     ensures { (kept : List ℕ) → result ≡ variable_divert_judged (here_at file.now kept scope) target.now }
 {
     if is_counted(file, scope.params, target) && !is_counted(file, scope.marks, target) {
@@ -87,7 +86,6 @@ fn check_variable_divert_target(file: &[u8], scope: ScopeView, target: &[u8]) ->
 // An argument that may be a DivertTarget of a divert parameter: rule 9.
 #[tactic(auto, unfolding(crate::specs::Context::here_at))]
 fn check_divert_target_arg(file: &[u8], scope: ScopeView, name: &[u8]) -> Option<Rule>
-    requires { scope.marks ≤ length file.now }
     ensures { (kept : List ℕ) → result ≡ argument_judged (here_at file.now kept scope) name.now }
 {
     if is_counted(file, scope.marks, name) {
@@ -103,7 +101,6 @@ pub fn validate_node_variable_divert_target(
     scope: ScopeView,
     item: u32,
 ) -> Option<Rule>
-    requires { (scope.params ≤ length file.now) × (scope.marks ≤ length file.now) }
     ensures { (k : Known) (kept : List ℕ) (before : List What) → result ≡ judged_by k (here_at file.now kept scope) variable_diverts before (item_in file.now item).what }
 {
     if has_target(item) {

@@ -55,12 +55,6 @@ impl IndexView<'_> {
         if is_reserved(target) {
             return true;
         }
-        find_target_in(
-            self.story.source.file,
-            self.index,
-            self.count,
-            self.hints,
-            target,
-        )
+        find_target_in(&self.entries, self.hints, target)
     }
 }

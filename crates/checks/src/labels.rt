@@ -1,15 +1,14 @@
 // Labels, and what a stitch may not see, by the kept items of the flow or the stitch at hand.
-ghost use Rattle.std.specs.Prelude.{◌≡◌, ◌≤◌, length};
+ghost use Rattle.std.specs.Prelude.{◌≡◌};
 ghost use Rattle.checks.specs.Context.{declared_at, here_at};
 
-use crate::parameters::is_counted;
 use crate::view::BodyView;
 use items::named::{has_label, has_temp};
 use items::runs::KeptBody;
+use searches::is_counted;
 
 // The name is a parameter or a temp of the flow or the stitch with these parameters and this body.
 fn is_declared(body: &KeptBody<'_>, params: usize, name: &[u8]) -> bool
-    requires { params ≤ length body.now.file.now }
     ensures { result ≡ declared_at body.now.file.now body.now.kept.numbers.now params body.now.from body.now.to name.now }
 {
     is_counted(body.file, params, name) || has_temp(body.file, body.items(), name)

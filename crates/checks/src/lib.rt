@@ -4,7 +4,6 @@
 pub mod diverts;
 pub mod known;
 pub mod labels;
-pub mod parameters;
 pub mod structure;
 pub mod view;
 

@@ -1,13 +1,14 @@
 -- Items at which no rule of some passes is broken: one after the other, and what the passes then find. Assumes nothing.
 use Rattle.rules.specs.declared.Rule.{Rule}
-use Rattle.std.specs.Prelude.{Option, Some, None}
+use Rattle.std.specs.Prelude.{Option, Some, None, MatchBool}
+use Rattle.std.specs.List.{AllWithin, HoldsAt}
 use mathlib.Core.Path.{◌≡◌, refl, sym, ◌∙◌}
-use mathlib.Core.Bool.{Bool, true, false, ◌&&◌, true≢false}
+use mathlib.Core.Bool.{Bool, true, false, ◌&&◌, and-false, true≢false}
 use mathlib.Core.List.{List, [], ◌∷◌, ◌++◌}
-use Prim.Native.Nat.{ℕ, ◌+◌, ◌≤◌, ◌<◌}
+use Prim.Native.Nat.{ℕ, zero, suc, ◌+◌, ◌≤◌, ◌<◌}
 use native.Mathlib.Numerals.{add-one}
-use lib.ListN.{length, get_or, take, drop, drop_of_length-le}
-use lib.Seq.{drop-cons}
+use native.Mathlib.Omega.{arith}
+use lib.ListN.{length, take, drop, drop_of_length-le}
 use Rattle.records.specs.Items.{What, Item}
 use Rattle.story.specs.Story.{whats}
 use Rattle.rules.specs.Rules.{Known, Here}
@@ -19,26 +20,25 @@ use Rattle.context.proofs.Walks.{taken}
 -- 1. Passes one after the other at an item
 
 module _ (k : Known) (h : Here) (before : List What) (w : What) where
-  -- nothing is broken by the passes before pass number i
-  pub record Passing (ps : List Pass) (i : ℕ) : Type 0 where
-    pub rest : clear_at k h ps before w ≡ clear_at k h (drop i ps) before w
+  -- no rule of the pass is broken, or some is
+  abbrev pub Passes : Bool → Pass → Type 0
+  Passes b p = is_fine (judged_by k h (rules_of p) before w) ≡ b
 
-  pub passing_start : (ps : List Pass) → Passing ps 0
-  passing_start ps = record { rest = refl }
+  all-clear : (ps : List Pass) → AllWithin (Passes true) ps 0 (length ps) → true ≡ clear_at k h ps before w
+  unfolding clear_at
+  all-clear [] e = refl
+  all-clear (p ∷ ps) e = rw (e 0 p (omega arith) (omega arith)) (all-clear ps (λ i d a b. e (suc i) d (omega arith) (omega arith)))
 
-  module _ {ps : List Pass} {i : ℕ} (passing : Passing ps i) where
-    pub passing_end : length ps ≤ i → true ≡ clear_at k h ps before w
-    unfolding clear_at
-    passing_end l = sym (passing.rest ∙ rw (drop_of_length-le ps l))
+  some-broken : (ps : List Pass) (i : ℕ) → i < length ps → HoldsAt (Passes false) ps i → false ≡ clear_at k h ps before w
+  unfolding clear_at
+  some-broken [] i l e = absurd (omega arith)
+  some-broken (p ∷ ps) zero l e = rw (e p)
+  some-broken (p ∷ ps) (suc i) l e = rw (← some-broken ps i (omega arith) e, and-false (is_fine (judged_by k h (rules_of p) before w)))
 
-    module _ (l : i < length ps) (d : Pass) {j : Option Rule} (e : j ≡ judged_by k h (rules_of (get_or ps i d)) before w) where
-      pub passing_next : j ≡ None → Passing ps (i + 1)
-      unfolding clear_at
-      passing_next f = record { rest = passing.rest ∙ rw (drop-cons ps i d l, ← e, f, add-one i) }
-
-      pub passing_broken : {r : Rule} → j ≡ Some r → false ≡ clear_at k h ps before w
-      unfolding clear_at
-      passing_broken f = sym (passing.rest ∙ rw (drop-cons ps i d l, ← e, f))
+  -- what is asked of each pass, as far as one that is broken
+  pub each-pass : (ps : List Pass) (r : Bool) → MatchBool r (AllWithin (Passes true) ps 0 (length ps)) ((i : ℕ) × (i < length ps) × HoldsAt (Passes false) ps i) → r ≡ clear_at k h ps before w
+  each-pass ps true e = all-clear ps e
+  each-pass ps false e = some-broken ps e.0 e.1 e.2
 
 -- 2. Items one after the other
 

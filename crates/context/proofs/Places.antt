@@ -1,5 +1,5 @@
 -- The names of the root, a flow and a stitch are those at their places, and their parts lie within the file. Assumes nothing.
-use Rattle.std.specs.Prelude.{Option, Some, None, is_some}
+use Rattle.std.specs.Prelude.{Option, Some, None}
 use mathlib.Core.Path.{◌≡◌, refl, sym, ap}
 use mathlib.Core.Bool.{Bool, true, false, not, ◌&&◌}
 use mathlib.Core.List.{List, [], ◌∷◌, map}
@@ -7,7 +7,7 @@ use Prim.Native.Nat.{ℕ, ◌-◌, ◌<◌}
 use native.Mathlib.Omega.{arith}
 use lib.ListN.{length}
 use lib.Seq.{drop-length}
-use Rattle.names.specs.Words.{Bytes, any}
+use Rattle.names.specs.Words.{Bytes}
 use Rattle.names.proofs.Any.{any-map}
 use Rattle.story.specs.declared.Sections.{Sections}
 use Rattle.story.specs.Story.{Stitch}
@@ -18,17 +18,18 @@ use Rattle.story.proofs.Unfolding.{pieces-in-none}
 use Rattle.story.proofs.Readable.{readable}
 use Rattle.searches.specs.declared.views.FlowView.{FlowView}
 use Rattle.searches.specs.declared.views.StitchView.{StitchView}
+use Rattle.searches.specs.Counted.{counted_at}
 use Rattle.searches.specs.Views.{flow_view_of, stitch_view_of}
 use Rattle.searches.proofs.Parts.{part_none}
-use Rattle.searches.proofs.Viewed.{FlowLaid, flow-laid, stitch-laid, stitch-viewed}
+use Rattle.searches.proofs.Viewed.{FlowLaid, flow-laid, stitch-laid}
 use Rattle.searches.proofs.Readable.{flow-readable, no_flow}
 use Rattle.items.specs.Bodies.{kept_story, kept_stitch, kept_stitches, kept_flow, Kept, StitchesKept}
 use Rattle.items.specs.Runs.{numbers_from}
+use Rattle.items.specs.Stitches.{StitchesReady}
 use Rattle.items.proofs.Kept.{kept-rising, kept-flows, root-plain, flow-stitches, flow-rest, flows-plain, flow-labels, stitch-rest, stitches-plain, flows-from}
 use Rattle.rules.specs.Rules.{here, root, knot, stitch}
 use Rattle.rules.proofs.Order.{same_here}
-use Rattle.checks.specs.Context.{counted_at, declared_at, here_at, StitchesReady, ScopeReady}
-use Rattle.checks.proofs.Stitches.{stitches-none}
+use Rattle.checks.specs.Context.{declared_at, here_at, ScopeReady}
 use Rattle.context.specs.Scopes.{root_view, knot_view, stitch_view, kept_flows, FlowReady, StitchReady, FlowsReady}
 
 -- 1. The same names
@@ -154,17 +155,6 @@ flows-ready-from q ready = record {
 }
 
 module _ (file : List ℕ) (at end : ℕ) (ready : StitchesReady file at end) {r : Option StitchView} (told : r ≡ stitch_view_of file at end) where
-  pub no-stitches : r ≡ None → kept_stitches file at end ≡ []
-  no-stitches q = ap (map stitch_without_plain) (stitches-none file at end ready told q)
-
-  -- the first is seen exactly if there is some
-  pub some-stitch : is_some r ≡ any (λ (t : Stitch). true) (kept_stitches file at end)
-  some-stitch = by-view r refl
-    where
-      by-view : (v : Option StitchView) → r ≡ v → is_some r ≡ any (λ (t : Stitch). true) (kept_stitches file at end)
-      by-view None q = rw (q, no-stitches q) refl
-      by-view (Some w) q = rw (q, stitch-viewed file at end w told q) refl
-
   module _ (w : StitchView) (q : r ≡ Some w) where
     pub stitch-seen-ready : StitchReady file w
     stitch-seen-ready =
@@ -180,7 +170,7 @@ module _ (file : List ℕ) (at end : ℕ) (ready : StitchesReady file at end) {r
       stitches-rest = stitch-rest file kept at end ready.ordered ready.within ready.short ready.good own w told q
 
 -- a readable file's flows
-pub readable-flows : {file : List ℕ} {c : Sections} {kept : List ℕ} → Kept file c kept → FlowsReady file kept c.flows c.end
-readable-flows {file} {c} k =
+pub readable_flows : {file : List ℕ} {c : Sections} {kept : List ℕ} → Kept file c kept → FlowsReady file kept c.flows c.end
+readable_flows {file} {c} k =
     let good = readable file c refl k.read in
     record { ordered = good.order.flows; within = omega (arith, good.order.trailer); short = good.order.short; good = good.flows; own = kept-flows k }

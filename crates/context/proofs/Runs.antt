@@ -251,3 +251,16 @@ pub story-runs : (c : Sections) (file : List ℕ)
     ≡ found_runs (kept_story c file) (over root (kept_story c file).root root_steps ++ each flow_runs (kept_story c file).flows ++ over root (kept_story c file).root (s20 ∷ []))
 unfolding runs
 story-runs c file = rw (← verdict-plain (story_in c file) (story-unlabelled c file)) (verdict-found (kept_story c file))
+
+-- the verdict, by what the root's steps find, then the flows, then the root's gathers
+module _ {file : List ℕ} {c : Sections} {kept : List ℕ} (k : Kept file c kept) where
+  pub root_found : {b : BreachAt} → Some b ≡ passes_found file kept c (root_view c (length file)) ROOT → Some b ≡ found_of (verdict (story_in c file))
+  root_found e = rw (story-runs c file) (runs-found _ _ _ (runs-found _ _ _ (root-run k e)))
+
+  module _ (e : None ≡ passes_found file kept c (root_view c (length file)) ROOT) where
+    pub flows_found : {b : BreachAt} → Some b ≡ found_runs (kept_story c file) (each flow_runs (kept_story c file).flows) → Some b ≡ found_of (verdict (story_in c file))
+    flows_found h = rw (story-runs c file) (runs-found _ _ _ (runs-passed _ _ _ (root-run k e) h))
+
+    pub flows_passed : None ≡ found_runs (kept_story c file) (each flow_runs (kept_story c file).flows)
+        → {r : Option BreachAt} → r ≡ passes_found file kept c (root_view c (length file)) GATHERS → r ≡ found_of (verdict (story_in c file))
+    flows_passed h g = rw (story-runs c file) (runs-passed _ _ _ (runs-passed _ _ _ (root-run k e) h) (root-gathers k g))

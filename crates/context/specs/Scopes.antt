@@ -12,11 +12,12 @@ use Rattle.searches.specs.declared.views.FlowView.{FlowView}
 use Rattle.searches.specs.declared.views.StitchView.{StitchView}
 use Rattle.items.specs.Bodies.{kept_in, kept_stitches, StitchesKept, FlowsKept}
 use Rattle.items.specs.Search.{label_in}
+use Rattle.items.specs.Stitches.{StitchesReady}
 use Rattle.symbols.specs.Numbers.{absent}
 use Rattle.rules.specs.Rules.{Here, knot}
 use Rattle.rules.specs.Steps.{s5, s6, s12, s19, bracket, flow_steps, Run, over, name_item, param_items, purity_items, stitch_runs}
 use Rattle.checks.specs.declared.ScopeView.{ScopeView}
-use Rattle.checks.specs.Context.{known_in, here_at, StitchesReady}
+use Rattle.checks.specs.Context.{known_in, here_at}
 use Rattle.context.specs.declared.BreachAt.{BreachAt}
 use Rattle.context.specs.declared.Pass.{Pass}
 use Rattle.context.specs.Found.{found_along, found_passes, clear_along}

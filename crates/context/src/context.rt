@@ -6,7 +6,7 @@ ghost use Rattle.items.specs.Bodies.{Kept, kept_story, kept_stitch, kept_flow};
 ghost use Rattle.rules.specs.Steps.{stitch_runs, flow_runs, verdict};
 ghost use Rattle.checks.specs.Context.{Ready};
 ghost use Rattle.context.specs.Found.{found_of, found_runs};
-ghost use Rattle.context.specs.Scopes.{root_view, FlowReady, StitchReady, FlowsReady, passes_found, first_runs, later_runs};
+ghost use Rattle.context.specs.Scopes.{root_view, FlowReady, StitchReady, passes_found, first_runs, later_runs};
 
 use crate::BreachAt;
 use crate::passes::{FLOW, GATHERS, ROOT, STITCH, WHOLE_FLOW, filter_room};
@@ -15,10 +15,12 @@ use crate::structure::{validate_flow_parameter_names, validate_stitch_name};
 use crate::view::{KnotView, StepView, WholeView};
 use checks::view::{BodyView, IndexView, StoryView};
 use filters::declared::put_declared;
+use filters::labels::split_at;
 use filters::view::DeclaredView;
 use items::runs::KeptNumbers;
 use searches::views::{FlowView, StitchView, flow_view, stitch_view};
 use story::{FileView, Sections};
+use symbols::targets::EntryIndex;
 
 impl KnotView<'_, '_> {
     // Steps 5 and 6, of a flow.
@@ -50,7 +52,8 @@ impl KnotView<'_, '_> {
         let body = BodyView { file, kept, scope };
         let place = DeclaredView {
             body,
-            filter: self.knot.place.filter,
+            names: self.knot.place.names,
+            labels: self.knot.place.labels,
         };
         let step = StepView {
             index: self.knot.index,
@@ -80,13 +83,10 @@ impl KnotView<'_, '_> {
     fn validate_unclear_flow(&self, gathers: &mut [u8]) -> Option<BreachAt>
         ensures { let b = self.now.knot.place.body in result ≡ found_runs (kept_story self.now.knot.index.story.source.sections b.file.now) (later_runs (kept_flow b.file.now b.kept.numbers.now self.now.flow)) }
     {
-        if let Some(breach) = self.knot.find_in_passes(&FLOW) {
-            return Some(breach);
-        }
-        if let Some(breach) = self.validate_stitches(gathers) {
-            return Some(breach);
-        }
-        self.knot.validate_passes(&GATHERS, gathers)
+        self.knot
+            .find_in_passes(&FLOW)
+            .or_else(|| self.validate_stitches(gathers))
+            .or_else(|| self.knot.validate_passes(&GATHERS, gathers))
     }
 
     // Steps 7 to 19, of a flow and its stitches: where one look finds the body clear of its own steps, the stitches are left.
@@ -105,10 +105,8 @@ impl KnotView<'_, '_> {
     fn validate_all_steps(&self, gathers: &mut [u8]) -> Option<BreachAt>
         ensures { let b = self.now.knot.place.body in result ≡ found_runs (kept_story self.now.knot.index.story.source.sections b.file.now) (flow_runs (kept_flow b.file.now b.kept.numbers.now self.now.flow)) }
     {
-        if let Some(breach) = self.validate_first_steps(gathers) {
-            return Some(breach);
-        }
-        self.validate_later_steps(gathers)
+        self.validate_first_steps(gathers)
+            .or_else(|| self.validate_later_steps(gathers))
     }
 }
 
@@ -127,9 +125,12 @@ fn validate_whole_flow<'a>(
     let scope = knot_scope(flow);
     put_declared(file, kept, scope, declared);
     let body = BodyView { file, kept, scope };
+    let filter = &declared[..];
+    let split = split_at(filter.len(), scope.stitches, scope.end);
     let place = DeclaredView {
         body,
-        filter: declared,
+        names: &filter[..split],
+        labels: &filter[split..],
     };
     let knot = StepView {
         index: *index,
@@ -152,31 +153,6 @@ fn declared_room(v: FlowView, bytes: usize) -> usize
     length.min(bytes)
 }
 
-// Steps 5 to 19, of the flows one after the other.
-fn validate_flows<'a>(
-    index: &IndexView<'a>,
-    kept: KeptNumbers<'a>,
-    declared: &mut [u8],
-    gathers: &mut [u8],
-) -> Option<BreachAt>
-    requires { let c = index.now.story.source in FlowsReady c.file.now kept.numbers.now c.sections.flows c.sections.end }
-    ensures { let c = index.now.story.source in result ≡ found_runs (kept_story c.sections c.file.now) (each flow_runs (kept_story c.sections c.file.now).flows) }
-{
-    let file = index.story.source.file;
-    let end = index.story.source.sections.end;
-    let mut at = index.story.source.sections.flows;
-    let mut rest = kept;
-    while let Some(v) = flow_view(file, at, end) {
-        let room = declared_room(v, declared.len());
-        if let Some(breach) = validate_whole_flow(index, rest, v, &mut declared[..room], gathers) {
-            return Some(breach);
-        }
-        at = v.end;
-        rest = rest.items_from(at);
-    }
-    None
-}
-
 impl WholeView<'_> {
     // Steps 1 to 4, at the root. The filter gets the root's labels.
     fn validate_root(&self, declared: &mut [u8], gathers: &mut [u8]) -> Option<BreachAt>
@@ -188,12 +164,40 @@ impl WholeView<'_> {
         let scope = root_scope(index.story.source.sections, file.len());
         put_declared(file, kept, scope, declared);
         let body = BodyView { file, kept, scope };
+        let filter = &declared[..];
+        let split = split_at(filter.len(), scope.stitches, scope.end);
         let place = DeclaredView {
             body,
-            filter: declared,
+            names: &filter[..split],
+            labels: &filter[split..],
         };
         let root = StepView { index, place };
         root.validate_passes(&ROOT, gathers)
+    }
+
+    // Steps 5 to 19, of the flows one after the other.
+    fn validate_flows(&self, declared: &mut [u8], gathers: &mut [u8]) -> Option<BreachAt>
+        ensures { let c = self.now.index.story.source in result ≡ found_runs (kept_story c.sections c.file.now) (each flow_runs (kept_story c.sections c.file.now).flows) }
+    {
+        let file = self.index.story.source.file;
+        let end = self.index.story.source.sections.end;
+        let mut at = self.index.story.source.sections.flows;
+        let mut rest = self.kept;
+        while let Some(v) = flow_view(file, at, end) {
+            let room = declared_room(v, declared.len());
+            if let Some(breach) = validate_whole_flow(
+                &self.index,
+                rest,
+                v,
+                &mut declared[..room],
+                gathers,
+            ) {
+                return Some(breach);
+            }
+            at = v.end;
+            rest = rest.items_from(at);
+        }
+        None
     }
 
     // Step 20, at the root.
@@ -207,26 +211,24 @@ impl WholeView<'_> {
         let body = BodyView { file, kept, scope };
         let place = DeclaredView {
             body,
-            filter: &file[..0],
+            names: &file[..0],
+            labels: &file[..0],
         };
         let root = StepView { index, place };
         root.validate_passes(&GATHERS, gathers)
     }
 
     // The steps over a story: 1 to 4 at the root, 5 to 19 of each flow, 20 at the root.
+    #[tactic(auto, using(crate::proofs::Runs::root_found, crate::proofs::Runs::flows_found, crate::proofs::Runs::flows_passed))]
     fn validate_steps(&self, declared: &mut [u8], gathers: &mut [u8]) -> Option<BreachAt>
         ensures { let c = self.now.index.story.source in result ≡ found_of (verdict (story_in c.sections c.file.now)) }
     {
         let source = self.index.story.source;
         let scope = root_scope(source.sections, source.file.len());
         let room = filter_room(scope, declared.len());
-        if let Some(breach) = self.validate_root(&mut declared[..room], gathers) {
-            return Some(breach);
-        }
-        if let Some(breach) = validate_flows(&self.index, self.kept, declared, gathers) {
-            return Some(breach);
-        }
-        self.validate_root_gathers(gathers)
+        self.validate_root(&mut declared[..room], gathers)
+            .or_else(|| self.validate_flows(declared, gathers))
+            .or_else(|| self.validate_root_gathers(gathers))
     }
 }
 
@@ -257,10 +259,14 @@ pub fn validate_story<'a>(
         source,
         functions: tables.functions,
     };
+    let entries = EntryIndex {
+        file,
+        numbers: tables.index,
+        count: tables.count,
+    };
     let index = IndexView {
         story,
-        index: tables.index,
-        count: tables.count,
+        entries,
         hints: tables.hints,
     };
     let whole = WholeView {

@@ -143,17 +143,13 @@ impl StepView<'_, '_> {
     }
 
     // The item breaks no rule of the passes.
-    #[tactic(auto, using(crate::proofs::Clear::passing_start, crate::proofs::Clear::passing_end, crate::proofs::Clear::passing_next, crate::proofs::Clear::passing_broken))]
     fn is_item_clear(&self, passes: &[Pass], slot: Slot, gathers: &[u8]) -> bool
         requires { let b = self.now.place.body in Gathered b.file.now b.kept.numbers.now b.scope.from b.scope.to slot.number gathers.now }
         ensures { let b = self.now.place.body in let c = self.now.index.story.source.sections in result ≡ clear_at (known_in c b.file.now) (here_at b.file.now b.kept.numbers.now b.scope) passes.now (take slot.number (whats (kept_in b.file.now b.kept.numbers.now b.scope.from b.scope.to))) (what_at b.file.now slot) }
     {
-        for &pass in passes {
-            if let Some(_) = self.judge_item(pass, slot, gathers) {
-                return false;
-            }
-        }
-        true
+        passes
+            .iter()
+            .all(|&pass| self.judge_item(pass, slot, gathers).is_none())
     }
 
     // No item of the body breaks a rule of the passes.

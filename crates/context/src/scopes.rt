@@ -2,8 +2,8 @@
 ghost use Rattle.std.specs.Prelude.{◌≡◌};
 ghost use Rattle.context.specs.Scopes.{root_view, knot_view, stitch_view};
 
-use crate::breaches::ABSENT;
 use checks::ScopeView;
+use rules::ABSENT;
 use searches::views::{FlowView, StitchView};
 use story::Sections;
 

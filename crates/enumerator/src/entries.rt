@@ -59,11 +59,11 @@ pub fn enumerate(
     set: &mut [u64],
     seen: Seen,
 ) -> Seen
-    requires { (seen.count ≡ 0) × Reachable (end_slots story.now.file.now) set.old }
-    ensures { Visited story.now.file.now target.now (placed (entries (story_in story.now.sections story.now.file.now))) index.old set.old seen index.new set.new result }
+    requires { (seen.count ≡ 0) × Reachable (end_slots story.now.source.file.now) set.old }
+    ensures { Visited story.now.source.file.now target.now (placed (entries (story_in story.now.source.sections story.now.source.file.now))) index.old set.old seen index.new set.new result }
 {
     let mut outputs = Outputs {
-        file: story.file,
+        file: story.source.file,
         target,
         index,
         set,
@@ -75,7 +75,7 @@ pub fn enumerate(
 
 // Writes the index of a readable file by its kept numbers; the entry count.
 pub fn write_index(story: &KeptFile<'_>, index: &mut [u32]) -> usize
-    ensures { st index.new result ≡ store_all (st index.old 0) (placed (entries (story_in story.now.sections story.now.file.now))) }
+    ensures { st index.new result ≡ store_all (st index.old 0) (placed (entries (story_in story.now.source.sections story.now.source.file.now))) }
 {
     let mut set = [0u64; 1];
     let seen = Seen {
@@ -83,13 +83,13 @@ pub fn write_index(story: &KeptFile<'_>, index: &mut [u32]) -> usize
         left: true,
         found: true,
     };
-    let met = enumerate(story, story.file, index, &mut set[..0], seen);
+    let met = enumerate(story, story.source.file, index, &mut set[..0], seen);
     met.count
 }
 
 // Writes the index of a readable file by its kept numbers, as far as there is room, and puts the targets of its entries into the set.
 pub fn write_entries(story: &KeptFile<'_>, index: &mut [u32], set: &mut [u64]) -> Seen
-    ensures { Entered story.now.file.now story.now.sections index.old index.new set.new result }
+    ensures { Entered story.now.source.file.now story.now.source.sections index.old index.new set.new result }
 {
     clear(set);
     let seen = Seen {
@@ -97,12 +97,12 @@ pub fn write_entries(story: &KeptFile<'_>, index: &mut [u32], set: &mut [u64]) -
         left: false,
         found: true,
     };
-    enumerate(story, story.file, index, set, seen)
+    enumerate(story, story.source.file, index, set, seen)
 }
 
 // Some entry of a readable file answers the target.
 pub fn has_target(story: &KeptFile<'_>, target: &[u8]) -> bool
-    ensures { result ≡ any (answers target.now) (spellings (story_in story.now.sections story.now.file.now)) }
+    ensures { result ≡ any (answers target.now) (spellings (story_in story.now.source.sections story.now.source.file.now)) }
 {
     let mut index = [0u32; 1];
     let mut set = [0u64; 1];

@@ -15,10 +15,11 @@ use Rattle.records.specs.Items.{What, is}
 use Rattle.story.specs.Story.{words, whats}
 use Rattle.story.specs.Flows.{counted_in}
 use Rattle.records.specs.Numbers.{item_in, between}
+use Rattle.searches.specs.Counted.{counted_at}
 use Rattle.searches.proofs.Answers.{counted-answer}
 use Rattle.items.specs.Bodies.{items_at, kept_in}
 use Rattle.items.specs.Search.{temp_in, gather_among}
-use Rattle.checks.specs.Context.{counted_at, declared_at, here_at}
+use Rattle.checks.specs.Context.{declared_at, here_at}
 use Rattle.checks.specs.declared.ScopeView.{ScopeView}
 use Rattle.filters.specs.declared.Wanted.{Wanted}
 use Rattle.filters.specs.declared.Wanted.TheVariants.{Sort, Label}
@@ -79,19 +80,26 @@ module _ (before names labels : List ℕ) {split : ℕ} (p : length names ≡ sp
       rw joined
       (record { covers = rw (all, ← e, take_at names labels split p) n; labels = rw (all, ← e, drop_at names labels split p) l })
 
-module _ {file kept filter : List ℕ} (v : ScopeView) (declared : Declared file kept v.outer v.body v.stitches v.end filter) (n : Bytes) {r : Bool}
-    {split : ℕ} (here : split ≡ split_at (length filter) v.stitches v.end) where
-  -- the first part lacks the name, so that it is not forbidden
-  pub not_forbidden : r ≡ lacks (take split filter) n → r ≡ true → false ≡ (here_at file kept v).forbidden n
-  unfolding here_at
-  not_forbidden e t = rw (lacked declared.covers (rw here at e) t)
+-- its two parts, cut where the labels begin
+module _ {file kept : List ℕ} {params from to end : ℕ} {filter : List ℕ} (declared : Declared file kept params from to end filter) {split : ℕ} (here : split ≡ split_at (length filter) to end) where
+  pub names_part : Covers (take split filter) (declared_at file kept params from to)
+  names_part = rw here declared.covers
 
-  -- the second part lacks the name, so that it is no label
-  pub not_label : r ≡ lacks (take (length filter - split) (drop split filter)) n → r ≡ true → false ≡ (here_at file kept v).label n
-  unfolding here_at
-  not_label e t =
+  pub labels_part : Covers (take (length filter - split) (drop split filter)) (label_at file kept from end)
+  labels_part =
       let all = take_all (length filter - split) (drop split filter) (omega (arith, length-drop split filter)) in
-      sym (lacked declared.labels (rw (all, here) at e) t)
+      rw (all, here) declared.labels
+
+module _ (file kept : List ℕ) {filter : List ℕ} (v : ScopeView) (n : Bytes) {r : Bool} where
+  -- the filter lacks the name, so that it is not forbidden
+  pub not_forbidden : Covers filter (declared_at file kept v.outer v.body v.stitches) → r ≡ lacks filter n → r ≡ true → false ≡ (here_at file kept v).forbidden n
+  unfolding here_at
+  not_forbidden covers e t = rw (lacked covers e t)
+
+  -- the filter lacks the name, so that it is no label
+  pub not_label : Covers filter (label_at file kept v.body v.end) → r ≡ lacks filter n → r ≡ true → false ≡ (here_at file kept v).label n
+  unfolding here_at
+  not_label covers e t = sym (lacked covers e t)
 
 -- 3. The gathers before an item
 

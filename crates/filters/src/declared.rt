@@ -60,14 +60,12 @@ pub fn put_declared(file: &[u8], kept: KeptNumbers<'_>, scope: ScopeView, filter
 }
 
 impl DeclaredView<'_, '_> {
-    // The name is forbidden in the stitch: its knot declares it, and it does not. Not searched for where the filter's first part lacks it.
+    // The name is forbidden in the stitch: its knot declares it, and it does not. Not searched for where the filter of names lacks it.
     #[tactic(auto, using(crate::proofs::Bodies::not_forbidden))]
     pub fn is_forbidden_in(&self, name: &[u8]) -> bool
         ensures { result ≡ (here_at self.now.body.file.now self.now.body.kept.numbers.now self.now.body.scope).forbidden name.now }
     {
-        let scope = self.body.scope;
-        let split = split_at(self.filter.len(), scope.stitches, scope.end);
-        !lacks_word(&self.filter[..split], name) && self.body.is_forbidden(name)
+        !lacks_word(self.names, name) && self.body.is_forbidden(name)
     }
 
     // The name of an item that is a variable: rule 15. The filter has what the knot declares.

@@ -30,13 +30,11 @@ pub fn put_labels(body: &KeptBody<'_>, filter: &mut [u8])
 }
 
 impl DeclaredView<'_, '_> {
-    // The name is a label that a temp may not have. Not searched for where the filter's second part lacks it.
+    // The name is a label that a temp may not have. Not searched for where the filter of labels lacks it.
     #[tactic(auto, using(crate::proofs::Bodies::not_label))]
     pub fn is_label_in(&self, name: &[u8]) -> bool
         ensures { result ≡ (here_at self.now.body.file.now self.now.body.kept.numbers.now self.now.body.scope).label name.now }
     {
-        let scope = self.body.scope;
-        let split = split_at(self.filter.len(), scope.stitches, scope.end);
-        !lacks_word(&self.filter[split..], name) && self.body.is_label(name)
+        !lacks_word(self.labels, name) && self.body.is_label(name)
     }
 }

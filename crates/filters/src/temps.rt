@@ -7,12 +7,12 @@ ghost use Rattle.checks.specs.Judged.{judged_by, temp_judged};
 ghost use Rattle.checks.specs.Context.{known_in, here_at};
 
 use crate::view::DeclaredView;
-use checks::parameters::is_counted;
 use checks::structure::is_sort;
 use checks::view::StoryView;
 use items::items::item_name;
 use records::sorts::Sort;
 use rules::Rule;
+use searches::is_counted;
 
 impl DeclaredView<'_, '_> {
     // A temp's name: rules 4, 6 and 7.

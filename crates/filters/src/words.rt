@@ -11,7 +11,7 @@ ghost use Rattle.filters.specs.Words.{added, added_all, lacks, wants, named};
 use crate::Wanted;
 use checks::structure::is_sort;
 use items::items::{is_labelled, item_name};
-use names::name_at;
+use searches::name_views::counted;
 use tables::hashes::{hash_of, slot_of};
 
 // Adds a word. A filter without slots stays.
@@ -50,16 +50,8 @@ pub fn clear_filter(filter: &mut [u8])
 pub fn add_counted(filter: &mut [u8], s: &[u8])
     ensures { filter.new ≡ added_all filter.old (words (counted_in 0 s.now)) }
 {
-    if s.len() == 0 {
-        return;
-    }
-    let mut at = 1;
-    for done in 0..s[0] {
-        if s.len() <= at {
-            return;
-        }
-        add_word(filter, name_at(s, at));
-        at = at + (1 + s[at] as usize);
+    for name in counted(s, 0) {
+        add_word(filter, name.bytes);
     }
 }
 

@@ -76,7 +76,7 @@ body-plain {file} {kept} {from} {to} short h = rw h.run (map_back file (body_in 
 -- 3. A file
 
 module _ {file : List ℕ} {c : Sections} {kept : List ℕ} (h : Kept file c kept) where
-  order : InOrder c file
+  pub order : InOrder c file
   order = (readable file c refl h.read).order
 
   pub kept-rising : Rising kept

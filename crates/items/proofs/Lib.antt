@@ -8,3 +8,4 @@ pub mod Labels
 pub mod Kept
 pub mod Filled
 pub mod Standing
+pub mod StitchesLeft

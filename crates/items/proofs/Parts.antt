@@ -1,9 +1,9 @@
 -- Parts of a file as the code takes them: what is left behind an offset, and a payload. Assumes nothing.
 use Rattle.std.specs.Prelude.{Result, Ok, Err}
-use mathlib.Core.Path.{◌≡◌, sym, ◌∙◌}
+use mathlib.Core.Path.{◌≡◌}
 use mathlib.Core.List.{List, []}
-use Prim.Native.Nat.{ℕ, ◌-◌, ◌≤◌}
-use lib.ListN.{length, take, drop, drop_of_length-le}
+use Prim.Native.Nat.{ℕ, ◌-◌}
+use lib.ListN.{length, take, drop}
 use lib.Seq.{take-nil, drop-length}
 use Rattle.fields.specs.declared.Refusal.{Refusal}
 use Rattle.fields.specs.Bytes.{head_of, read_of_head}
@@ -13,9 +13,6 @@ use Rattle.records.specs.Numbers.{payload_behind, payload_at}
 -- the part behind the last byte
 pub part_none : (s : List ℕ) → take (length s - length s) (drop (length s) s) ≡ []
 part_none s = rw (drop-length s) (take-nil (length s - length s))
-
-pub part-past : (s : List ℕ) (at : ℕ) → length s ≤ at → take (length s - length s) (drop (length s) s) ≡ drop at s
-part-past s at h = part_none s ∙ sym (drop_of_length-le s h)
 
 -- a payload
 module _ (file : List ℕ) (place : ℕ) {s : List ℕ} (there : s ≡ drop place file) {h : Result (ℕ × ℕ) Refusal} (read : h ≡ read_of_head (head_of s)) where

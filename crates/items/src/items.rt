@@ -19,18 +19,7 @@ pub fn place_in(item: u32) -> usize
 pub fn sort_in(item: u32) -> Sort
     ensures { (file : List ℕ) → result ≡ (item_in file item).what.kind }
 {
-    match item / 1048576 % 16 {
-        1 => Sort::Temp,
-        2 => Sort::Divert,
-        3 => Sort::Tunnel,
-        4 => Sort::Thread,
-        5 => Sort::Call,
-        6 => Sort::Variable,
-        7 => Sort::Argument,
-        8 => Sort::Choice,
-        9 => Sort::Gather,
-        _ => Sort::Plain,
-    }
+    Sort::of(item / 1048576 % 16)
 }
 
 // The item stands directly in a branch of a conditional or a switch.
@@ -58,10 +47,7 @@ pub fn choice_has_explicit_divert(item: u32) -> bool
 fn tail<'a>(s: &'a [u8], at: usize) -> &'a [u8]
     ensures { result.now ≡ drop at s.now }
 {
-    if s.len() <= at {
-        return &s[s.len()..];
-    }
-    &s[at..]
+    &s[at.min(s.len())..]
 }
 
 // The payload of the record whose kind byte stands at the place.

@@ -40,12 +40,9 @@ fn bears_name(sought: Sought, file: &[u8], item: u32, name: &[u8]) -> bool
 pub fn found_in(sought: Sought, file: &[u8], items: &[u32], name: &[u8]) -> bool
     ensures { result ≡ found_among sought (whats (items_at file.now items.now)) name.now }
 {
-    for &item in items {
-        if bears_name(sought, file, item, name) {
-            return true;
-        }
-    }
-    false
+    items
+        .iter()
+        .any(|&item| bears_name(sought, file, item, name))
 }
 
 // The name is a label of one of the items.
@@ -66,8 +63,5 @@ pub fn has_temp(file: &[u8], items: &[u32], name: &[u8]) -> bool
 pub fn has_gather_before(file: &[u8], items: &[u32], i: usize, name: &[u8]) -> bool
     ensures { result ≡ gather_among (take i (whats (items_at file.now items.now))) name.now }
 {
-    if i < items.len() {
-        return found_in(Sought::Gather, file, &items[..i], name);
-    }
-    found_in(Sought::Gather, file, items, name)
+    found_in(Sought::Gather, file, &items[..i.min(items.len())], name)
 }

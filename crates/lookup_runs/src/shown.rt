@@ -1,15 +1,13 @@
 // A lookup in an index that was filled with one number, and the line that shows what came of it.
 use lookups::{Target, lookup};
 use std::io;
+use symbols::ABSENT;
 
 // What the index holds before most lookups.
 pub const BLANK: u32 = 2779096485;
 
 // The longest target that is written out.
 const WRITTEN: usize = 32;
-
-// The number for no name.
-const ABSENT: u32 = 4294967295;
 
 // A lookup: the file, the target, and what the index is filled with before.
 #[derive(Clone, Copy)]

@@ -4,19 +4,19 @@
 ghost use Rattle.std.specs.Prelude.{◌≡◌, ◌∷◌, ◌≤◌, ◌*◌, length};
 ghost use Rattle.names.specs.Words.{same, ends};
 ghost use Rattle.story.specs.File.{story_in};
-ghost use Rattle.symbols.specs.Rows.{spellings_in, first_of};
+ghost use Rattle.symbols.specs.Rows.{spellings_of, first_of};
 ghost use Rattle.lookups.specs.declared.LookupRefusal.TheVariants.{Unreadable};
 ghost use Rattle.lookups.specs.Results.{answer_of, number_of};
 ghost use Rattle.lookups.specs.Lookup.{entry_of, target_of, Looked};
 
 use fields::{Refusal, refusal_number};
-use items::files::KeptFile;
+use items::files::read_kept;
 use names::{is_reserved, passes};
 use searches::is_function_name;
+use story::FileView;
 use story::trailer::read_trailer;
-use story::{FileView, read};
 use symbols::entries::write_index;
-use symbols::targets::{find_ending, find_exact};
+use symbols::targets::EntryIndex;
 
 // What a target is: an entry is named by its number in the index, from 0.
 #[derive(Clone, Copy)]
@@ -64,22 +64,22 @@ impl From<Refusal> for LookupRefusal {
     }
 }
 
-// The first of so many entries that is spelled as the target, else the first that ends in "." and the target.
-fn lookup_entry(file: &[u8], index: &[u32], count: usize, target: &[u8]) -> Target
-    ensures { answer_of result ≡ entry_of (first_of (same target.now) 0 (spellings_in file.now count index.now)) (first_of (ends (46 ∷ target.now)) 0 (spellings_in file.now count index.now)) }
+// The first entry that is spelled as the target, else the first that ends in "." and the target.
+fn lookup_entry(index: &EntryIndex<'_>, target: &[u8]) -> Target
+    ensures { answer_of result ≡ entry_of (first_of (same target.now) 0 (spellings_of index.now)) (first_of (ends (46 ∷ target.now)) 0 (spellings_of index.now)) }
 {
-    if let Some(k) = find_exact(file, index, count, target) {
+    if let Some(k) = index.find_exact(target) {
         return Target::Exact(k);
     }
-    if let Some(k) = find_ending(file, index, count, target) {
+    if let Some(k) = index.find_ending(target) {
         return Target::Ending(k);
     }
     Target::Missing
 }
 
-// What the target is in a file with these sections, whose index has so many entries.
-fn lookup_target(source: &FileView<'_>, index: &[u32], count: usize, target: &[u8]) -> Target
-    ensures { answer_of result ≡ target_of (story_in source.now.sections source.now.file.now).flows (spellings_in source.now.file.now count index.now) target.now }
+// What the target is in a file with this index.
+fn lookup_target(source: &FileView<'_>, index: &EntryIndex<'_>, target: &[u8]) -> Target
+    ensures { answer_of result ≡ target_of (story_in source.now.sections source.now.file.now).flows (spellings_of index.now) target.now }
 {
     let file = source.file;
     let c = source.sections;
@@ -92,7 +92,7 @@ fn lookup_target(source: &FileView<'_>, index: &[u32], count: usize, target: &[u
     if is_reserved(target) {
         return Target::Reserved;
     }
-    lookup_entry(file, index, count, target)
+    lookup_entry(index, target)
 }
 
 // Looks the target up, with a buffer for the kept numbers that is a sixth as long as the file, if that is not too long to be read.
@@ -105,21 +105,21 @@ fn lookup_in(
     requires { length file.now ≤ 1048576 → length file.now ≤ 6 * length items.old }
     ensures { Looked file.now index.old target.now result index.new }
 {
-    let (c, n, _) = read(file, items)?;
-    if index.len() < 3 * c.end {
+    let story = read_kept(file, items)?;
+    if index.len() < 3 * story.source.sections.end {
         return Err(LookupRefusal::ShortIndex);
     }
-    let kept = &items[..n];
-    let sections = c;
-    let story = KeptFile {
+    let count = write_index(&story, index);
+    let entries = EntryIndex {
         file,
-        sections,
-        kept,
+        numbers: index,
+        count,
     };
-    let entries = write_index(&story, index);
-    let source = FileView { file, sections };
-    let target = lookup_target(&source, index, entries, target);
-    Ok(Answered { target, entries })
+    let target = lookup_target(&story.source, &entries, target);
+    Ok(Answered {
+        target,
+        entries: count,
+    })
 }
 
 // The same with a buffer of so many numbers.

@@ -1,4 +1,4 @@
--- Names in a file: what stands at a place, by where the file ends, and the words of a table one after the other. Assumes nothing.
+-- Names in a file: what stands at a place, by where the file ends. Assumes nothing.
 use mathlib.Core.Path.{◌≡◌, ◌∙◌}
 use mathlib.Core.List.{List, []}
 use Prim.Native.Nat.{ℕ, ◌+◌, ◌-◌, ◌≤◌}

@@ -6,4 +6,3 @@ pub mod Lists
 pub mod Means
 pub mod Counted
 pub mod Targets
-pub mod Search

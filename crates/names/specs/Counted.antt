@@ -1,15 +1,6 @@
 -- Names as they stand in a file: a count byte, and then so many bytes. Assumes nothing.
-use Rattle.std.specs.Prelude.{List, ◌∷◌, ℕ, ◌+◌, length, get_or, take, drop}
-use Rattle.names.specs.Words.{Bytes, each}
+use Rattle.std.specs.Prelude.{List, ℕ, ◌+◌, get_or, take, drop}
 
 -- the name whose count byte stands at the place; where the file ends too early, what is left of it
 unfoldable pub name_at : List ℕ → ℕ → List ℕ
 name_at file at = take (get_or (drop at file) 0 0) (drop (at + 1) file)
-
--- a word with its count before it
-abbrev pub counted : Bytes → Bytes
-counted w = length w ∷ w
-
--- a table of words, each with its count
-abbrev pub table : List Bytes → Bytes
-table ws = each counted ws

@@ -65,24 +65,34 @@ pub fn same_at(file: &[u8], at: usize, name: &[u8]) -> bool
     same_name(name, name_at(file, at))
 }
 
-// The words of is_builtin_function, each with its count before it.
-const WORDS: [u8; 181] = *b"\x06RANDOM\x0bSEED_RANDOM\x03POW\x05FLOOR\x07CEILING\x03INT\x05FLOAT\
-    \x03MIN\x03MAX\x0aREAD_COUNT\x0bTURNS_SINCE\x0cCHOICE_COUNT\x05TURNS\
-    \x0aLIST_VALUE\x08LIST_ALL\x0bLIST_INVERT\x0aLIST_COUNT\x08LIST_MIN\x08LIST_MAX\
-    \x0aLIST_RANGE\x0bLIST_RANDOM";
+// The words of is_builtin_function.
+const WORDS: [&[u8]; 21] = [
+    b"RANDOM",
+    b"SEED_RANDOM",
+    b"POW",
+    b"FLOOR",
+    b"CEILING",
+    b"INT",
+    b"FLOAT",
+    b"MIN",
+    b"MAX",
+    b"READ_COUNT",
+    b"TURNS_SINCE",
+    b"CHOICE_COUNT",
+    b"TURNS",
+    b"LIST_VALUE",
+    b"LIST_ALL",
+    b"LIST_INVERT",
+    b"LIST_COUNT",
+    b"LIST_MIN",
+    b"LIST_MAX",
+    b"LIST_RANGE",
+    b"LIST_RANDOM",
+];
 
 // The name is one of the 21 words of is_builtin_function. Stops at the word found.
 pub fn is_builtin_function(name: &[u8]) -> bool
     ensures { result ≡ one_of name.now builtins }
 {
-    let words = WORDS;
-    let mut rest: &[u8] = &words;
-    while 0 < rest.len() {
-        let word = name_at(rest, 0);
-        if same_name(name, word) {
-            return true;
-        }
-        rest = &rest[1 + word.len()..];
-    }
-    false
+    WORDS.iter().any(|&word| same_name(name, word))
 }

@@ -1,7 +1,7 @@
 -- Records that are nothing but a head, and plain: text and the like. Assumes nothing.
 use Rattle.std.specs.Prelude.{Result, Ok}
 use Rattle.fields.specs.declared.Refusal.{Refusal}
-use Rattle.std.proofs.Common.{◌≡◌, ℕ, zero, suc, ◌+◌, ◌-◌, ◌%◌, ◌^◌, ◌<◌, List, [], length, take, drop, refl, arith}
+use Rattle.std.proofs.Common.{◌≡◌, true, ◌⊎◌, inl, inr, eqb, ltb, eqb-true, ltb-true, ℕ, zero, suc, ◌+◌, ◌-◌, ◌%◌, ◌^◌, ◌<◌, List, [], length, take, drop, refl, arith}
 use Rattle.fields.specs.declared.Role.{Role}
 use Rattle.fields.specs.declared.Role.TheVariants.{Node, Branch, Cond, Visited, Argument, Unvisited}
 use Rattle.fields.specs.declared.Body.TheVariants.{Exprs}
@@ -17,21 +17,28 @@ use Rattle.records.proofs.Walking.{record-on, told-done, front-on}
 -- 1. The kinds
 
 -- kind 0, in every role
-pub bare-zero : (role : Role) → BareKind role 0
+pub bare-zero : {kind : ℕ} (role : Role) → eqb kind 0 ≡ true → BareKind role kind
 unfolding kind_of node_kind cond_kind expr_kind sort_of
-bare-zero Node = record { inner = Visited; nothing_inside = refl; is_plain = λ q. refl }
-bare-zero Branch = record { inner = Visited; nothing_inside = refl; is_plain = λ q. refl }
-bare-zero Cond = record { inner = Visited; nothing_inside = refl; is_plain = λ q. refl }
-bare-zero Visited = record { inner = Visited; nothing_inside = refl; is_plain = λ q. refl }
-bare-zero Argument = record { inner = Unvisited; nothing_inside = refl; is_plain = λ q. refl }
-bare-zero Unvisited = record { inner = Unvisited; nothing_inside = refl; is_plain = λ q. refl }
+bare-zero {kind} role e = rw (eqb-true kind 0 e) (at_zero role)
+  where
+    at_zero : (r : Role) → BareKind r 0
+    at_zero Node = record { inner = Visited; nothing_inside = refl; is_plain = λ q. refl }
+    at_zero Branch = record { inner = Visited; nothing_inside = refl; is_plain = λ q. refl }
+    at_zero Cond = record { inner = Visited; nothing_inside = refl; is_plain = λ q. refl }
+    at_zero Visited = record { inner = Visited; nothing_inside = refl; is_plain = λ q. refl }
+    at_zero Argument = record { inner = Unvisited; nothing_inside = refl; is_plain = λ q. refl }
+    at_zero Unvisited = record { inner = Unvisited; nothing_inside = refl; is_plain = λ q. refl }
 
 -- nodes of kinds 0 and 1, directly in a branch or not
-pub bare-node : (kind : ℕ) → kind < 2 → BareKind Node kind × BareKind Branch kind
+pub bare-node : {kind : ℕ} {role : Role} → (role ≡ Node) ⊎ (role ≡ Branch) → ltb kind 2 ≡ true → BareKind role kind
 unfolding kind_of node_kind sort_of
-bare-node zero p = (bare-zero Node, bare-zero Branch)
-bare-node (suc zero) p = (record { inner = Visited; nothing_inside = refl; is_plain = λ q. refl }, record { inner = Visited; nothing_inside = refl; is_plain = λ q. refl })
-bare-node (suc (suc k)) p = absurd (omega arith)
+bare-node {kind} r e = below kind r (ltb-true kind 2 e)
+  where
+    below : (k : ℕ) {role : Role} → (role ≡ Node) ⊎ (role ≡ Branch) → k < 2 → BareKind role k
+    below zero {role} r p = bare-zero role refl
+    below (suc zero) (inl e) p = rw e (record { inner = Visited; nothing_inside = refl; is_plain = λ q. refl })
+    below (suc zero) (inr e) p = rw e (record { inner = Visited; nothing_inside = refl; is_plain = λ q. refl })
+    below (suc (suc k)) r p = absurd (omega arith)
 
 -- 2. A walk over such a record
 

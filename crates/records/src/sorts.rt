@@ -2,7 +2,7 @@
 ghost use Rattle.std.specs.Prelude.{◌≡◌, true, slice_index_or};
 ghost use Rattle.records.specs.declared.sorts.Sort.TheVariants.{Plain};
 ghost use Rattle.records.specs.Items.{node_sorts, cond_sorts, expr_sorts, argument_sorts, sort_of, assigned, flag, labelled, in_branch};
-ghost use Rattle.records.specs.Numbers.{bit};
+ghost use Rattle.records.specs.Numbers.{bit, sorts};
 ghost use Rattle.records.specs.Work.{Bare, BareKind};
 
 use fields::Role;
@@ -26,14 +26,31 @@ pub enum Sort {
     FlowStart,
 }
 
+impl Sort {
+    // The sort of a body's records that has the number; Plain where none has.
+    pub fn of(number: u32) -> Sort
+        ensures { result ≡ slice_index_or sorts number Plain }
+    {
+        match number {
+            1 => Sort::Temp,
+            2 => Sort::Divert,
+            3 => Sort::Tunnel,
+            4 => Sort::Thread,
+            5 => Sort::Call,
+            6 => Sort::Variable,
+            7 => Sort::Argument,
+            8 => Sort::Choice,
+            9 => Sort::Gather,
+            _ => Sort::Plain,
+        }
+    }
+}
+
 // A flag byte at the front.
 pub fn is_flagged(s: &[u8]) -> bool
     ensures { result ≡ flag s.now }
 {
-    if s.len() < 1 {
-        return false;
-    }
-    s[0] == 1
+    s.first() == Some(&1)
 }
 
 // The sort of an assignment: a temp where its mode is 1.
@@ -94,12 +111,12 @@ fn argument_sort(kind: u8) -> Sort
 }
 
 // The sort of a record.
+#[tactic(auto, unfolding(crate::specs::Items::sort_of))]
 pub fn sort_of(role: Role, kind: u8, payload: &[u8]) -> Sort
     ensures { result ≡ sort_of role kind payload.now }
 {
     match role {
-        Role::Node => node_sort(kind, payload),
-        Role::Branch => node_sort(kind, payload),
+        Role::Node | Role::Branch => node_sort(kind, payload),
         Role::Cond => cond_sort(kind),
         Role::Visited => expr_sort(kind),
         Role::Argument => argument_sort(kind),
@@ -108,30 +125,23 @@ pub fn sort_of(role: Role, kind: u8, payload: &[u8]) -> Sort
 }
 
 // 1 where the role is that of a node directly in a branch of a conditional or a switch.
+#[tactic(auto, unfolding(crate::specs::Items::in_branch, crate::specs::Numbers::bit))]
 pub fn branch_bit(role: Role) -> u32
     ensures { result ≡ bit (in_branch role) }
 {
     match role {
-        Role::Node => 0,
         Role::Branch => 1,
-        Role::Cond => 0,
-        Role::Visited => 0,
-        Role::Argument => 0,
-        Role::Unvisited => 0,
+        _ => 0,
     }
 }
 
 // 1 where the name of a record of the sort is a label.
+#[tactic(auto, using(crate::proofs::Codes::other_code), unfolding(crate::specs::Items::labelled, crate::specs::Numbers::bit))]
 pub fn label_bit(sort: Sort, payload: &[u8]) -> u32
     ensures { result ≡ bit (labelled sort payload.now) }
 {
     match sort {
-        Sort::Choice => {
-            if is_flagged(payload) {
-                return 1;
-            }
-            0
-        }
+        Sort::Choice => u32::from(is_flagged(payload)),
         Sort::Gather => 1,
         _ => 0,
     }
@@ -142,12 +152,8 @@ fn is_bare_kind(role: Role, kind: u8) -> bool
     ensures { result ≡ true → BareKind role kind }
 {
     match role {
-        Role::Node => kind < 2,
-        Role::Branch => kind < 2,
-        Role::Cond => kind == 0,
-        Role::Visited => kind == 0,
-        Role::Argument => kind == 0,
-        Role::Unvisited => kind == 0,
+        Role::Node | Role::Branch => kind < 2,
+        _ => kind == 0,
     }
 }
 
@@ -155,11 +161,5 @@ fn is_bare_kind(role: Role, kind: u8) -> bool
 pub fn is_bare(role: Role, kind: u8, to: usize, left: usize) -> bool
     ensures { result ≡ true → Bare role kind to left }
 {
-    if to != 5 {
-        return false;
-    }
-    if left == 0 {
-        return false;
-    }
-    is_bare_kind(role, kind)
+    to == 5 && left != 0 && is_bare_kind(role, kind)
 }

@@ -6,9 +6,7 @@ use mathlib.Core.List.{List, ◌∷◌}
 use mathlib.Core.Bool.{Bool, true, false}
 use Prim.Native.Nat.{ℕ, zero, suc, ◌+◌, ◌-◌}
 use lib.Dec.{eqb}
-use native.Mathlib.Omega.{arith}
-use borrow.Author.Tests.{eq-eqb, ne_eqb}
-use lib.ListN.{length, get_or, take, drop, get_or-eq_default}
+use lib.ListN.{length, get_or, take, drop}
 use lib.Seq.{drop-drop}
 use Rattle.fields.specs.declared.Refusal.{Refusal}
 use Rattle.fields.specs.Bytes.{Span, list_of, span_reach}
@@ -16,7 +14,7 @@ use Rattle.fields.proofs.Laws.{span_to, span-refused, to_end}
 use Rattle.names.specs.Words.{Bytes, same, any}
 use Rattle.names.specs.Counted.{name_at}
 use Rattle.story.specs.Headings.{heading_of}
-use Rattle.records.specs.Items.{name_in}
+use Rattle.records.specs.Items.{name_in, flag}
 use Rattle.story.specs.Flows.{titled_at, titled_in, pieces_at, pieces_n, pieces_in, flow_in, flows_in}
 use Rattle.story.proofs.Alike.{same_flow}
 use Rattle.story.proofs.Unfolding.{pieces-in-step, pieces-in-refused}
@@ -67,14 +65,11 @@ module _ (n : Bytes) (s : List ℕ) {function : Bool} where
   pub called-flow : {r : Bool} → function ≡ false → r ≡ same n (name_at s 1) → r ≡ called_as function n (flow_in 0 s)
   called-flow f e = rw (f, flow-name 0 s) e
 
-  pub called-function : {r : Bool} → function ≡ true → get_or s 0 0 ≡ 1 → r ≡ same n (name_at s 1) → r ≡ called_as function n (flow_in 0 s)
-  called-function f g e = rw (f, flow-name 0 s, flow-flag 0 s, eq-eqb (get_or s 0 0) 1 g) e
+  pub called-function : {r : Bool} → function ≡ true → flag s ≡ true → r ≡ same n (name_at s 1) → r ≡ called_as function n (flow_in 0 s)
+  called-function f g e = rw (f, flow-name 0 s, flow-flag 0 s, g) e
 
-  pub called-other : function ≡ true → (get_or s 0 0 ≡ 1 → ⊥) → false ≡ called_as function n (flow_in 0 s)
-  called-other f g = rw (f, flow-flag 0 s, ne_eqb (get_or s 0 0) 1 g)
-
-  pub called-empty : function ≡ true → length s ≡ 0 → false ≡ called_as function n (flow_in 0 s)
-  called-empty f g = called-other f (λ e. omega (arith, e, get_or-eq_default s 0 {n = 0} (omega arith)))
+  pub called-other : function ≡ true → flag s ≡ false → false ≡ called_as function n (flow_in 0 s)
+  called-other f g = rw (f, flow-flag 0 s, g)
 
 -- the answers of the search
 module _ (b : Bool) (n : Bytes) (s : List ℕ) where

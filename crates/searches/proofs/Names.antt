@@ -1,71 +1,54 @@
--- A search through names, one after the other. Assumes nothing.
-use mathlib.Core.Path.{◌≡◌, refl, ap, ◌∙◌}
+-- Names that stand one after the other, one at a time. Assumes nothing.
+use mathlib.Core.Path.{◌≡◌, refl, sym}
 use mathlib.Core.List.{List, [], ◌∷◌}
-use mathlib.Core.Bool.{Bool, true, false}
 use Prim.Native.Nat.{ℕ, zero, suc, ◌+◌, ◌-◌, ◌≤◌, ◌<◌}
-use native.Mathlib.Numerals.{sub-one}
+use native.Mathlib.Numerals.{add-one, sub-one}
 use native.Mathlib.Omega.{arith}
-use lib.ListN.{length, get_or, take, drop, length-take}
-use Rattle.fields.proofs.Laws.{to_end}
-use Rattle.names.specs.Words.{Bytes, same, one_of}
+use native.Mathlib.Decide.{dec_lt}
+use lib.ListN.{length, get_or, drop, length-drop}
+use lib.Seq.{drop-drop, drop-cons, get_or-drop}
 use Rattle.names.specs.Counted.{name_at}
-use Rattle.story.specs.Story.{words}
+use Rattle.story.specs.Story.{Name}
 use Rattle.story.specs.Flows.{names_n, counted_in}
-use Rattle.story.proofs.Alike.{same_names}
+use Rattle.story.proofs.Unfolding.{names-n-none}
+use Rattle.searches.specs.declared.name_views.NamesFrom.{NamesFrom}
+use Rattle.searches.specs.NameViews.{names_left}
 
--- past as many bytes as a name has, of those that there are
-past-taken : (n : ℕ) (s : List ℕ) → drop (length (take n s)) s ≡ drop n s
-past-taken zero s = refl
-past-taken (suc n) [] = refl
-past-taken (suc n) (x ∷ s) = past-taken n s
+-- the name at the place, and the others
+pub names-first : (s : List ℕ) (n at : ℕ) → 0 < n → at < length s
+    → names_n n at (drop at s) ≡ record { at = at; bytes = name_at s at } ∷ names_n (n - 1) (at + (1 + get_or s at 0)) (drop (at + (1 + get_or s at 0)) s)
+unfolding names_n name_at
+names-first s zero at h k = absurd (omega arith)
+names-first s (suc n) at h k =
+    let after : at + (1 + get_or s at 0) ≡ suc at + get_or s at 0 = omega arith in
+    rw (add-one at, sub-one (suc n), drop-cons s at 0 k, after, drop-drop (get_or s at 0) (suc at) s)
 
-past-front : (x : ℕ) (t : List ℕ) {w : Bytes} → w ≡ name_at (x ∷ t) 0 → take (length (x ∷ t) - (1 + length w)) (drop (1 + length w) (x ∷ t)) ≡ drop x t
-unfolding name_at
-past-front x t {w} e =
-    let one : 1 + length w ≡ suc (length w) = omega arith in
-    to_end (1 + length w) (x ∷ t) ∙ rw (one, e) (past-taken x t)
+-- no bytes are left, and so no names
+pub counted-none : (s : List ℕ) (at : ℕ) → length s ≤ at → [] ≡ counted_in at (drop at s)
+unfolding counted_in
+counted-none s at h = sym (names-n-none (get_or (drop at s) 0 0) (at + 1) (drop 1 (drop at s)) (omega (arith, length-drop 1 (drop at s), length-drop at s)))
 
--- the name at the front lies within the bytes
-pub front_fits : (t : List ℕ) {w : Bytes} → (length t ≡ 0 → ⊥) → w ≡ name_at t 0 → 1 + length w ≤ length t
-unfolding name_at
-front_fits [] h e = absurd (h refl)
-front_fits (x ∷ t) h e = rw (e, length-take) (omega arith)
+-- so many names as the count byte at the place says, after it
+pub counted-some : (s : List ℕ) (at : ℕ) → names_n (get_or s at 0) (at + 1) (drop (at + 1) s) ≡ counted_in at (drop at s)
+unfolding counted_in
+counted-some s at =
+    let zero-on : at + 0 ≡ at = omega arith in
+    rw (get_or-drop at s 0 0, zero-on, drop-drop 1 at s)
 
-module _ (name : Bytes) where
-  pub none_left : (n : ℕ) (t : List ℕ) → n ≤ 0 → false ≡ one_of name (words (names_n n 0 t))
-  unfolding names_n
-  none_left zero t h = refl
-  none_left (suc n) t h = absurd (omega arith)
+-- each of the names stands in the file
+abbrev pub AllIn : List ℕ → List Name → Type 0
+AllIn file [] = Unit {0}
+AllIn file (n ∷ ns) = (n.at < length file) × (n.bytes ≡ name_at file n.at) × AllIn file ns
 
-  pub nothing_left : (n : ℕ) (t : List ℕ) → length t ≡ 0 → false ≡ one_of name (words (names_n n 0 t))
-  unfolding names_n
-  nothing_left zero t h = refl
-  nothing_left (suc n) [] h = refl
-  nothing_left (suc n) (x ∷ t) h = absurd (omega arith)
+names-in : (file : List ℕ) (n at : ℕ) → AllIn file (names_n n at (drop at file))
+unfolding names_n
+names-in file zero at = tt
+names-in file (suc n) at = by-place (dec_lt at (length file)) (names-in file n (at + (1 + get_or file at 0)))
+  where
+    by-place : Dec (at < length file) → AllIn file (names_n n (at + (1 + get_or file at 0)) (drop (at + (1 + get_or file at 0)) file)) → AllIn file (names_n (suc n) at (drop at file))
+    by-place (yes h) more = rw (names-first file (suc n) at (omega arith) h, sub-one (suc n)) (h, refl, more)
+    by-place (no h) more = rw (names-n-none (suc n) at (drop at file) (omega (arith, length-drop at file, h))) tt
 
-  -- the name at the front is the one
-  pub front-found : (n : ℕ) (t : List ℕ) {w : Bytes} {r : Bool} → 0 < n → (length t ≡ 0 → ⊥) → w ≡ name_at t 0 → r ≡ same name w → r ≡ true
-      → true ≡ one_of name (words (names_n n 0 t))
-  unfolding names_n name_at
-  front-found zero t p h e f g = absurd (omega arith)
-  front-found (suc n) [] p h e f g = absurd (h refl)
-  front-found (suc n) (x ∷ t) p h e f g = rw (← e, ← f, g)
-
-  -- it is not, and the others decide
-  pub front-passed : (n : ℕ) (t : List ℕ) {w : Bytes} {r : Bool} → 0 < n → (length t ≡ 0 → ⊥) → w ≡ name_at t 0 → r ≡ same name w → r ≡ false
-      → one_of name (words (names_n n 0 t)) ≡ one_of name (words (names_n (n - 1) 0 (take (length t - (1 + length w)) (drop (1 + length w) t))))
-  unfolding names_n name_at
-  front-passed zero t p h e f g = absurd (omega arith)
-  front-passed (suc n) [] p h e f g = absurd (h refl)
-  front-passed (suc n) (x ∷ t) {w} p h e f g =
-      rw (← e, ← f, g, sub-one (suc n), past-front x t e) (ap (one_of name) (same_names n (0 + (1 + x)) 0 (drop x t)))
-
-  -- names after a count byte
-  pub counted_none : (s : List ℕ) → length s ≡ 0 → false ≡ one_of name (words (counted_in 0 s))
-  unfolding counted_in names_n
-  counted_none [] h = refl
-  counted_none (x ∷ s) h = absurd (omega arith)
-
-  pub counted-some : (s : List ℕ) {r : Bool} → r ≡ one_of name (words (names_n (get_or s 0 0) 0 (take (length s - 1) (drop 1 s)))) → r ≡ one_of name (words (counted_in 0 s))
-  unfolding counted_in
-  counted-some s e = e ∙ rw (to_end 1 s) (ap (one_of name) (same_names (get_or s 0 0) 0 (0 + 1) (drop 1 s)))
+-- the names that are left stand in the file
+pub left-in : (v : NamesFrom) → AllIn v.file.now (names_left v)
+left-in v = names-in v.file.now v.many v.at

@@ -1,5 +1,7 @@
 -- What the view of a flow or a stitch is to the rules. Assumes nothing.
 use Rattle.std.specs.Prelude.{Result, Option, Ok, Err, Some, None}
+use Rattle.std.specs.Result.{result_ok}
+use Rattle.std.proofs.lemmas.Option.{none-some}
 use mathlib.Core.Path.{◌≡◌, refl, sym, ◌∙◌}
 use mathlib.Core.List.{List, ◌∷◌}
 use Prim.Native.Nat.{ℕ, ◌+◌, ◌-◌, ◌≤◌, ◌<◌}
@@ -18,6 +20,15 @@ use Rattle.searches.specs.declared.views.StitchView.{StitchView}
 use Rattle.searches.specs.declared.views.FlowView.{FlowView}
 use Rattle.searches.specs.Views.{title_view_at, title_view_of, stitch_view_at, stitch_view_of, flagged_view, flow_view_at, flow_view_of, viewed_stitch, viewed_flow}
 use Rattle.searches.proofs.Parts.{part-drop, part-part, part-piece, part_none, part-short, part-first, name-in-part, counted-in-part}
+
+-- what `ok` makes of an answer
+ok-there : {A : Type 0} {x : A} (r : Result A Refusal) → result_ok r ≡ Some x → r ≡ Ok x
+ok-there (Ok y) e = cc
+ok-there {x = x} (Err y) e = absurd (none-some x e)
+
+ok-none : {A : Type 0} (r : Result A Refusal) → result_ok r ≡ None → (x : Refusal) × (r ≡ Err x)
+ok-none (Ok y) e = absurd (none-some y (sym e))
+ok-none (Err x) e = (x, refl)
 
 -- 1. What stands from a name on to the end of its flow or stitch
 
@@ -73,9 +84,19 @@ module _ (file : List ℕ) (p e : ℕ) where
             );
       }
 
-  pub places-order : (h : Heading) {r : Result Heading Refusal} → r ≡ heading_of (take (e - p) (drop p file)) → r ≡ Ok h → ViewOrder (places h p e)
-  unfolding part
-  places-order h told q = (heading-viewed h (sym told ∙ q)).order
+  -- the places, as the code learns the heading
+  module _ {r : Result Heading Refusal} (told : r ≡ heading_of (take (e - p) (drop p file))) {o : Option Heading} (ok : o ≡ result_ok r) where
+    pub places-order : (h : Heading) → o ≡ Some h → ViewOrder (places h p e)
+    unfolding part
+    places-order h q = (heading-viewed h (sym told ∙ ok-there r (sym ok ∙ q))).order
+
+    pub title-view-at : (h : Heading) → o ≡ Some h → Some (places h p e) ≡ title_view_of file p e
+    unfolding title_view_of title_view_at part
+    title-view-at h q = rw (← told, ok-there r (sym ok ∙ q))
+
+    pub title-view-none : o ≡ None → None ≡ title_view_of file p e
+    unfolding title_view_of title_view_at part
+    title-view-none q = rw (← told, (ok-none r (sym ok ∙ q)).1)
 
   pub title-viewed : (v : StitchView) → title_view_of file p e ≡ Some v → Titled file p e v
   unfolding title_view_of title_view_at
@@ -97,30 +118,31 @@ part-fits file at end n told =
     omega (arith, list-fits (take (end - at) (drop at file)) n told refl, length-take (end - at) (drop at file))
 
 -- the views, as the code learns how far a piece reaches
-module _ (file : List ℕ) (at end : ℕ) {r : Result ℕ Refusal} (told : r ≡ span_reach 4 (list_of (take (end - at) (drop at file)))) where
-  pub piece-within : (to : ℕ) → r ≡ Ok to → (4 ≤ to) × (at + to ≤ end)
-  piece-within to q = omega (arith, list-within (take (end - at) (drop at file)) to told q, length-take (end - at) (drop at file))
+module _ (file : List ℕ) (at end : ℕ) {r : Result ℕ Refusal} (told : r ≡ span_reach 4 (list_of (take (end - at) (drop at file)))) {o : Option ℕ} (ok : o ≡ result_ok r) where
+  pub piece-within : (to : ℕ) → o ≡ Some to → (4 ≤ to) × (at + to ≤ end)
+  piece-within to q =
+      omega (arith, list-within (take (end - at) (drop at file)) to told (ok-there r (sym ok ∙ q)), length-take (end - at) (drop at file))
 
-  pub stitch-view-at : (to : ℕ) → r ≡ Ok to → stitch_view_of file at end ≡ title_view_of file (at + 4) (at + to)
+  pub stitch-view-at : (to : ℕ) → o ≡ Some to → stitch_view_of file at end ≡ title_view_of file (at + 4) (at + to)
   unfolding stitch_view_of stitch_view_at part
   stitch-view-at to q =
-      let h = span_to 4 (list_of (take (end - at) (drop at file))) told to q in
+      let h = span_to 4 (list_of (take (end - at) (drop at file))) told to (ok-there r (sym ok ∙ q)) in
       rw (h.0, h.1)
 
-  pub flow-view-at : (to : ℕ) → r ≡ Ok to → flow_view_of file at end ≡ flagged_view (title_view_of file (at + 5) (at + to)) file at
+  pub flow-view-at : (to : ℕ) → o ≡ Some to → flow_view_of file at end ≡ flagged_view (title_view_of file (at + 5) (at + to)) file at
   unfolding flow_view_of flow_view_at part
   flow-view-at to q =
-      let h = span_to 4 (list_of (take (end - at) (drop at file))) told to q in
+      let h = span_to 4 (list_of (take (end - at) (drop at file))) told to (ok-there r (sym ok ∙ q)) in
       rw (h.0, h.1)
 
-  module _ (x : Refusal) (q : r ≡ Err x) where
+  module _ (q : o ≡ None) where
     pub stitch-view-none : None ≡ stitch_view_of file at end
     unfolding stitch_view_of stitch_view_at part
-    stitch-view-none = rw (span-refused 4 (list_of (take (end - at) (drop at file))) told x q)
+    stitch-view-none = let x = ok-none r (sym ok ∙ q) in rw (span-refused 4 (list_of (take (end - at) (drop at file))) told x.0 x.1)
 
     pub flow-view-none : None ≡ flow_view_of file at end
     unfolding flow_view_of flow_view_at part
-    flow-view-none = rw (span-refused 4 (list_of (take (end - at) (drop at file))) told x q)
+    flow-view-none = let x = ok-none r (sym ok ∙ q) in rw (span-refused 4 (list_of (take (end - at) (drop at file))) told x.0 x.1)
 
 -- 2. Stitches
 

@@ -1,3 +1,5 @@
--- The definitions on flows and stitches as searches see them.
+-- The definitions on names, flows and stitches as searches see them.
 pub mod Called
+pub mod Counted
+pub mod NameViews
 pub mod Views

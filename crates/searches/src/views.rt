@@ -35,9 +35,7 @@ fn title_view(file: &[u8], name: usize, end: usize) -> Option<StitchView>
     requires { (name ≤ end) × (end ≤ length file.now) }
     ensures { result ≡ title_view_of file.now name end }
 {
-    let Ok(h) = read_heading(&file[name..end]) else {
-        return None;
-    };
+    let h = read_heading(&file[name..end]).ok()?;
     Some(StitchView {
         name,
         params: name + h.params,
@@ -53,9 +51,7 @@ pub fn stitch_view(file: &[u8], at: usize, end: usize) -> Option<StitchView>
     requires { (at ≤ end) × (end ≤ length file.now) }
     ensures { result ≡ stitch_view_of file.now at end }
 {
-    let Ok(e) = read_list(&file[at..end]) else {
-        return None;
-    };
+    let e = read_list(&file[at..end]).ok()?;
     title_view(file, at + 4, at + e)
 }
 
@@ -64,9 +60,7 @@ pub fn flow_view(file: &[u8], at: usize, end: usize) -> Option<FlowView>
     requires { (at ≤ end) × (end ≤ length file.now) }
     ensures { result ≡ flow_view_of file.now at end }
 {
-    let Ok(e) = read_list(&file[at..end]) else {
-        return None;
-    };
+    let e = read_list(&file[at..end]).ok()?;
     if e == 4 {
         return None;
     }

@@ -17,10 +17,10 @@ use Rattle.sets.specs.declared.Sought.{Sought}
 use Rattle.sets.specs.declared.Sought.TheVariants as sought
 use Rattle.std.specs.Prelude.{Ok, Err}
 use Rattle.sets.specs.declared.Full.{Full}
-use Rattle.sets.specs.Hashes.{hash_of, home_of}
+use Rattle.sets.specs.Hashes.{tag_of, home_of}
 use Rattle.sets.specs.Sets.{Slots, name_slots, held, Reachable, Room, Ended, PutIn}
 use Rattle.sets.proofs.Held.{Holds, held_at, held-some}
-use Rattle.sets.proofs.Walking.{walk-found, walk-vacant, walk-exhausted, tag-of}
+use Rattle.sets.proofs.Walking.{walk-found, walk-vacant, walk-exhausted, tag_class}
 
 -- a word that is held already
 pub put-known : (k : Slots) (slots : List ℕ) (n : Bytes) → Reachable k slots → true ≡ one_of n (held k slots) → PutIn k n slots slots (Ok false)
@@ -128,12 +128,12 @@ module _ (file slots : List ℕ) (place class : ℕ) (w : Bytes) (e : w ≡ name
   pub vacant-inside : {s : ℕ} → x ≡ sought.Vacant s → s < length slots
   vacant-inside q = (walk-vacant (name_slots file) slots (class ∷ w) t q).1.inside
 
-  pub vacant-added : {s hash : ℕ} → x ≡ sought.Vacant s → place < 1048576 → class < 4 → hash ≡ hash_of (class ∷ w)
-      → PutIn (name_slots file) (class ∷ name_at file place) slots (set slots s (1 + (place + (class + 4 * (hash % 512)) * 1048576))) (Ok true)
-  vacant-added {s} {hash} q h l p =
-      let v = 1 + (place + (class + 4 * (hash % 512)) * 1048576) in
+  pub vacant-added : {s tag : ℕ} → x ≡ sought.Vacant s → place < 1048576 → class < 4 → tag ≡ tag_of (class ∷ w)
+      → PutIn (name_slots file) (class ∷ name_at file place) slots (set slots s (1 + (place + tag * 1048576))) (Ok true)
+  vacant-added {s} {tag} q h l p =
+      let v = 1 + (place + tag * 1048576) in
       let o = rw e at (walk-vacant (name_slots file) slots (class ∷ w) t q) in
       let back : (v - 1) % 1048576 ≡ place = omega arith in
-      let tag : (v - 1) / 1048576 ≡ class + 4 * (hash % 512) = omega arith in
-      let own : (v - 1) / 1048576 % 4 ≡ class = omega arith in
-      put-added (name_slots file) slots r (class ∷ name_at file place) v s o.1 (λ z. omega arith) (rw (own, back)) (tag ∙ tag-of class (name_at file place) (rw e at p)) o.0
+      let mark : (v - 1) / 1048576 ≡ tag = omega arith in
+      let own : (v - 1) / 1048576 % 4 ≡ class = rw mark (tag_class class w l p) in
+      put-added (name_slots file) slots r (class ∷ name_at file place) v s o.1 (λ z. omega arith) (rw (own, back)) (mark ∙ rw e at p) o.0

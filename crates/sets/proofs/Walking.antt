@@ -63,6 +63,11 @@ pub tag-of : (class : ℕ) (w : Bytes) {hash : ℕ} → hash ≡ hash_of (class 
 unfolding tag_of
 tag-of class w p = rw p
 
+-- the tag of a name in a class begins with the class
+pub tag_class : (class : ℕ) (w : Bytes) {tag : ℕ} → class < 4 → tag ≡ tag_of (class ∷ w) → tag % 4 ≡ class
+unfolding tag_of
+tag_class class w h p = omega arith
+
 -- a slot with the tag of a name in a class has the class
 pub class_of : (class : ℕ) (w n : Bytes) (number : ℕ) {tag : ℕ} {r : Bool} → class < 4 → tag ≡ tag_of (class ∷ w) → number / 1048576 ≡ tag → r ≡ same w n
     → r ≡ same (class ∷ w) (number / 1048576 % 4 ∷ n)

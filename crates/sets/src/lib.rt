@@ -4,7 +4,7 @@
 #![tactic(auto)]
 
 ghost use Rattle.std.specs.Prelude.{◌≡◌, ◌∷◌, ◌<◌, ℕ, length};
-ghost use Rattle.names.specs.Words.{same, one_of};
+ghost use Rattle.names.specs.Words.{Bytes, same, one_of};
 ghost use Rattle.names.specs.Counted.{name_at};
 ghost use Rattle.sets.specs.Hashes.{hash_of, tag_of};
 ghost use Rattle.sets.specs.Sets.{number_of, name_slots, held, Empty, Reachable, Walked, Looked, Ended, PutIn};
@@ -84,6 +84,14 @@ pub fn walk<F: Fn(usize) -> Look>(home: usize, slots: usize, look: F) -> Sought
     Sought::Exhausted
 }
 
+// The tag of a name in the class, by their hash.
+fn tag_of(class: Class, hash: u32) -> usize
+    ensures tag { (w : Bytes) → hash ≡ hash_of (number_of class ∷ w) → result ≡ tag_of (number_of class ∷ w) }
+    ensures bound { result < 2048 }
+{
+    class.number() + 4 * (hash as usize % 512)
+}
+
 // The slot has the name in the class, whose tag this is. The file is read only where the tags are the same.
 fn holds(file: &[u8], slot: usize, class: Class, tag: usize, name: &[u8]) -> bool
     requires { (slot ≡ 0 → ⊥) × (tag ≡ tag_of (number_of class ∷ name.now)) × ((name_slots file.now).mark slot ≡ tag_of ((name_slots file.now).word slot)) }
@@ -94,12 +102,12 @@ fn holds(file: &[u8], slot: usize, class: Class, tag: usize, name: &[u8]) -> boo
 }
 
 // Goes over the slots of a name in the class with this hash, from its home up to the name or an empty slot.
-fn seek(file: &[u8], set: &[u32], class: Class, name: &[u8], hash: usize) -> Sought
-    requires hash_value { (hash ≡ hash_of (number_of class ∷ name.now)) × (hash < 4294967296) }
+fn seek(file: &[u8], set: &[u32], class: Class, name: &[u8], hash: u32) -> Sought
+    requires hash_value { hash ≡ hash_of (number_of class ∷ name.now) }
     requires reachable { Reachable (name_slots file.now) set.now }
     ensures { Ended (name_slots file.now) set.now (number_of class ∷ name.now) result }
 {
-    let tag = class.number() + 4 * (hash % 512);
+    let tag = tag_of(class, hash);
     let look = |at: usize| -> Look
         requires in_bounds { (at < length set.now) × (tag ≡ tag_of (number_of class ∷ name.now)) }
         requires reachable { Reachable (name_slots file.now) set.now }
@@ -123,7 +131,7 @@ pub fn has(file: &[u8], set: &[u32], class: Class, name: &[u8]) -> bool
     ensures { result ≡ one_of (number_of class ∷ name.now) (held (name_slots file.now) set.now) }
 {
     let found = seek(file, set, class, name, hash_in(class, name));
-    matches!(found, Sought::Found)
+    found == Sought::Found
 }
 
 // Puts the name whose count byte stands at the place into the set, in the class, unless the set holds it there or has no room from its home
@@ -139,7 +147,7 @@ pub fn put(file: &[u8], place: usize, class: Class, set: &mut [u32]) -> Result<b
     match found {
         Sought::Found => Ok(false),
         Sought::Vacant(slot) => {
-            set[slot] = (1 + (place + (class.number() + 4 * (hash % 512)) * 1048576)) as u32;
+            set[slot] = (1 + (place + tag_of(class, hash) * 1048576)) as u32;
             Ok(true)
         }
         Sought::Exhausted => Err(Full),

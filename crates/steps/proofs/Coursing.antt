@@ -13,9 +13,9 @@ use Rattle.story.specs.Story.{Story}
 use Rattle.items.specs.Bodies.{items_at, kept_story}
 use Rattle.rules.specs.Rules as rules
 use Rattle.rules.specs.Steps.{Step, bracket, run, over}
-use Rattle.broken.specs.declared.Scope.{Scope}
+use Rattle.broken.specs.declared.Site.{Site}
 use Rattle.broken.specs.declared.Rests.{Rests}
-use Rattle.broken.specs.Scopes.{known_in, here_in, body_run, KnotSet, BodySet}
+use Rattle.broken.specs.Scopes.{known_in, here_in, body_run, KnotSet, BodySet, Ready}
 use Rattle.steps.specs.declared.Tally.{Tally}
 use Rattle.steps.specs.declared.bodies.Course.{Course}
 use Rattle.steps.specs.Heard.{is_full, passed, Heard, heard, hear_runs}
@@ -24,10 +24,10 @@ use Rattle.steps.specs.declared.brackets.Along.{Along}
 use Rattle.steps.specs.declared.brackets.Along.TheVariants as along
 use Rattle.steps.specs.Brackets.{step_of, on_gathers, gathers_last, steps_along}
 use Rattle.steps.specs.Clear.{clear_along, among}
-use Rattle.steps.specs.Looks.{look_rules, LookReady}
-use Rattle.steps.specs.Fillings.{BodyPut}
-use Rattle.steps.specs.Turns.{ScopeIs, TurnReady, turn_run}
-use Rattle.steps.specs.Courses.{course_runs, turn_at, look_at, CourseReady}
+use Rattle.steps.specs.Looks.{look_rules}
+use Rattle.steps.specs.Fillings.{with_rests, BodyPut}
+use Rattle.steps.specs.Turns.{ScopeIs, turn_at, turn_run}
+use Rattle.steps.specs.Courses.{course_runs, CourseReady}
 use Rattle.steps.proofs.Runs.{runs-full}
 use Rattle.steps.proofs.Clear.{both, over-clear}
 
@@ -60,23 +60,23 @@ gathers-there (s ∷ t ∷ more) e (suc i) f l =
 
 -- the first i steps were run: what the body's set has while a step is left, and what is to come
 pub record Coursing (sections : Sections) (file kept : List ℕ) (c : Course) (steps : List code.Step) (rests : Rests) (list₀ body list : List ℕ) (tally : Tally) (i : ℕ) : Type 0 where
-  pub set : i < length steps → BodySet file kept c.scope rests 0 body
-  pub to-come : (s : rules.Scope) → ScopeIs file kept sections c.scope s
+  pub set : i < length steps → BodySet file kept (with_rests c.site rests) 0 body
+  pub to-come : (s : rules.Scope) → ScopeIs file kept sections c.site.scope s
       → hear_runs (kept_story sections file) (heard c.tally list₀) (course_runs file kept c (map step_of steps) s)
-      ≡ hear_runs (kept_story sections file) (heard tally list) (over s (items_at file (body_run kept c.scope)) (map step_of (drop i steps)))
+      ≡ hear_runs (kept_story sections file) (heard tally list) (over s (items_at file (body_run kept c.site.scope)) (map step_of (drop i steps)))
 
 -- the knot's set is as filled, whatever the rests of a body
-knot-again : {file kept : List ℕ} {s : Scope} {n r : Rests} {knot : List ℕ} → r.labels ≡ n.labels → r.temps ≡ n.temps → KnotSet file kept s n knot → KnotSet file kept s r knot
+knot-again : {file kept : List ℕ} {s : Site} {r : Rests} {knot : List ℕ} → r.labels ≡ s.rests.labels → r.temps ≡ s.rests.temps → KnotSet file kept s knot → KnotSet file kept (with_rests s r) knot
 knot-again e f k = record { labels = rw e k.labels; temps = rw f k.temps }
 
-module _ {file kept : List ℕ} {c : Course} {rests : Rests} {body : List ℕ} (put : BodyPut file kept c.scope c.rests rests body) where
+module _ {file kept : List ℕ} {c : Course} {rests : Rests} {body : List ℕ} (put : BodyPut file kept c.site rests body) where
   -- no step was run
   pub coursing-start : {sections : Sections} {steps : List code.Step} (list : List ℕ) → Coursing sections file kept c steps rests list body list c.tally 0
   coursing-start list = record { set = λ l. put.filled; to-come = λ s h. refl }
 
   module _ {knot : List ℕ} (ready : CourseReady file kept knot c) where
     -- all that a look may ask is ready
-    pub course-look : LookReady file kept knot body (look_at c rests)
+    pub course-look : Ready file kept knot body (with_rests c.site rests) 0
     course-look = record {
       scope_ready = ready.scope_ready;
       knot_set = knot-again put.labels put.temps ready.knot_set;
@@ -84,8 +84,8 @@ module _ {file kept : List ℕ} {c : Course} {rests : Rests} {body : List ℕ} (
     }
 
     -- all that the next step may ask is ready
-    pub coursing-ready : {sections : Sections} {steps : List code.Step} {list₀ body' list : List ℕ} {tally : Tally} {i : ℕ} → Coursing sections file kept c steps rests list₀ body' list tally i → i < length steps → {step : code.Step}
-        → TurnReady file kept knot body' (turn_at c rests step tally)
+    pub coursing-ready : {sections : Sections} {steps : List code.Step} {list₀ body' list : List ℕ} {tally : Tally} {i : ℕ} → Coursing sections file kept c steps rests list₀ body' list tally i → i < length steps
+        → Ready file kept knot body' (with_rests c.site rests) 0
     coursing-ready u l = record {
       scope_ready = ready.scope_ready;
       knot_set = knot-again put.labels put.temps ready.knot_set;
@@ -96,39 +96,39 @@ module _ {sections : Sections} {file kept : List ℕ} {c : Course} {steps : List
   -- the next step was run: only the last one changes the body's set
   pub coursing-next : gathers_last (map step_of steps) ≡ true → {step : code.Step} → drop i steps ≡ step ∷ drop (i + 1) steps → i < length steps
       → {body' list' : List ℕ} {tally' : Tally}
-      → ((s : rules.Scope) → ScopeIs file kept sections c.scope s
-      → heard tally' list' ≡ hear_runs (kept_story sections file) (heard tally list) (turn_run file kept (turn_at c rests step tally) s ∷ []))
+      → ((s : rules.Scope) → ScopeIs file kept sections c.site.scope s
+      → heard tally' list' ≡ hear_runs (kept_story sections file) (heard tally list) (turn_run file kept (turn_at (with_rests c.site rests) step tally) s ∷ []))
       → (on_gathers (step_of step) ≡ false → body' ≡ body)
       → Coursing sections file kept c steps rests list₀ body' list' tally' (i + 1)
   coursing-next last there l heard-there stay = record {
     set = λ m. rw (stay (gathers-there steps last i there m)) (u.set l);
     to-come = λ s h.
         u.to-come s h
-        ∙ runs-split (kept_story sections file) (heard tally list) s (items_at file (body_run kept c.scope)) (ap (map step_of) there)
+        ∙ runs-split (kept_story sections file) (heard tally list) s (items_at file (body_run kept c.site.scope)) (ap (map step_of) there)
         ∙ rw (← heard-there s h);
   }
 
-  module _ (s : rules.Scope) (h : ScopeIs file kept sections c.scope s) where
+  module _ (s : rules.Scope) (h : ScopeIs file kept sections c.site.scope s) where
     -- no step is left
     pub coursing-end : length steps ≤ i → heard tally list ≡ hear_runs (kept_story sections file) (heard c.tally list₀) (course_runs file kept c (map step_of steps) s)
     coursing-end l =
-        sym (u.to-come s h ∙ runs_none (kept_story sections file) (heard tally list) s (items_at file (body_run kept c.scope)) (ap (map step_of) (drop_of_length-le steps l)))
+        sym (u.to-come s h ∙ runs_none (kept_story sections file) (heard tally list) s (items_at file (body_run kept c.site.scope)) (ap (map step_of) (drop_of_length-le steps l)))
 
     -- no more is heard
     pub coursing-full : {b : Bool} → b ≡ is_full tally → b ≡ true
         → heard tally list ≡ hear_runs (kept_story sections file) (heard c.tally list₀) (course_runs file kept c (map step_of steps) s)
-    coursing-full e f = sym (u.to-come s h ∙ runs-full (kept_story sections file) (heard tally list) (sym e ∙ f) (over s (items_at file (body_run kept c.scope)) (map step_of (drop i steps))))
+    coursing-full e f = sym (u.to-come s h ∙ runs-full (kept_story sections file) (heard tally list) (sym e ∙ f) (over s (items_at file (body_run kept c.site.scope)) (map step_of (drop i steps))))
 
 -- 3. Where one look finds nothing
 
 -- the steps then find nothing, where the look tests all their rules
 pub course-clear : (sections : Sections) (file kept : List ℕ) (c : Course) (steps : List Step) → among (each bracket steps) (look_rules c.inner c.function) ≡ true
-    → {b : Bool} → b ≡ clear_along (known_in sections file) (here_in file kept c.scope) (look_rules c.inner c.function) [] (items_at file (body_run kept c.scope))
+    → {b : Bool} → b ≡ clear_along (known_in sections file) (here_in file kept c.site.scope) (look_rules c.inner c.function) [] (items_at file (body_run kept c.site.scope))
     → b ≡ true → {r : Tally} → r ≡ passed (length steps) c.tally → (list : List ℕ)
-    → (s : rules.Scope) → ScopeIs file kept sections c.scope s
+    → (s : rules.Scope) → ScopeIs file kept sections c.site.scope s
     → heard r list ≡ hear_runs (kept_story sections file) (heard c.tally list) (course_runs file kept c steps s)
 course-clear sections file kept c steps tested e f p list s h =
-    let items = items_at file (body_run kept c.scope) in
+    let items = items_at file (body_run kept c.site.scope) in
     let clear : clear_along (known_in sections file) (rules.here (kept_story sections file) s) (look_rules c.inner c.function) [] items ≡ true =
     rw h.names (sym e ∙ f) in
     rw (p, over-clear (kept_story sections file) s items (look_rules c.inner c.function) steps tested clear (heard c.tally list))

@@ -10,7 +10,7 @@ use Rattle.sets.specs.Members.{MembersPut}
 use Rattle.sets.proofs.Holding.{empty-without}
 use Rattle.sets.proofs.Passing.{members-none, members-start, members-same, without-members}
 use Rattle.broken.specs.declared.Scope.{Scope}
-use Rattle.broken.specs.declared.Rests.{Rests}
+use Rattle.broken.specs.declared.Site.{Site}
 use Rattle.broken.specs.Scopes.{body_run, own_run, knot_run}
 use Rattle.steps.specs.Fillings.{KnotPut, BodyPut}
 
@@ -28,10 +28,10 @@ knot-put file kept s p q = record {
   gathers = refl;
 }
 
-module _ (file kept : List ℕ) (s : Scope) (n : Rests) {empty : List ℕ} (e : Empty empty) where
+module _ (file kept : List ℕ) (s : Site) {empty : List ℕ} (e : Empty empty) where
   -- the body: its temps were put
-  pub body-put : {set : List ℕ} {own : ℕ} → MembersPut sought.Temp file 1 (body_run kept s) (length (body_run kept s)) empty set own
-      → BodyPut file kept s n (record { labels = n.labels; temps = n.temps; own = own; gathers = 0 }) set
+  pub body-put : {set : List ℕ} {own : ℕ} → MembersPut sought.Temp file 1 (body_run kept s.scope) (length (body_run kept s.scope)) empty set own
+      → BodyPut file kept s (record { labels = s.rests.labels; temps = s.rests.temps; own = own; gathers = 0 }) set
   body-put {set} p =
       let none : Without (name_slots file) 2 set = without-members p (λ z. omega arith) (empty-without (name_slots file) 2 e) in
       record {
@@ -43,12 +43,12 @@ module _ (file kept : List ℕ) (s : Scope) (n : Rests) {empty : List ℕ} (e : 
       }
 
   -- its temps are left
-  pub body-left : BodyPut file kept s n (record { labels = n.labels; temps = n.temps; own = 0; gathers = 0 }) empty
+  pub body-left : BodyPut file kept s (record { labels = s.rests.labels; temps = s.rests.temps; own = 0; gathers = 0 }) empty
   body-left =
       let none = empty-without (name_slots file) 2 e in
       record {
         filled = record {
-          temps = members-none (length (body_run kept s)) (empty-without (name_slots file) 1 e) (omega arith);
+          temps = members-none (length (body_run kept s.scope)) (empty-without (name_slots file) 1 e) (omega arith);
           gathers = members-start none;
         };
         no_gathers = none;

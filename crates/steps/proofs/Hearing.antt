@@ -1,15 +1,17 @@
 -- Hearing breaches and passing runs, one after the other. Assumes nothing.
 use mathlib.Core.Path.{◌≡◌, refl, sym, ap, ◌∙◌}
 use mathlib.Core.Bool.{Bool, true, false}
-use mathlib.Core.List.{List, [], ◌∷◌, ◌++◌}
-use Prim.Native.Nat.{ℕ, suc, min, ◌+◌, ◌-◌, ◌*◌, ◌/◌, ◌%◌, ◌≤◌, ◌<◌}
+use mathlib.Core.List.{List, [], ◌∷◌, ◌++◌, append_assoc}
+use Prim.Native.Nat.{ℕ, min, ◌+◌, ◌-◌, ◌*◌, ◌/◌, ◌%◌, ◌≤◌, ◌<◌}
 use native.Mathlib.Omega.{arith}
 use native.Mathlib.Nat.{add-zero}
-use lib.ListN.{length, set}
-use lib.Seq.{sets}
+use lib.ListN.{length, take}
+use lib.Seq.{sets, sets-eq}
 use lib.Dec.{leb, ltb}
+use borrow.Rule.Slice.PartMut.{put_mid}
 use borrow.Author.Tests.{ltb-true, ltb-false, leb-true, leb-false, lt-ltb, le-ltb}
 use Rattle.std.specs.Prelude.{Some}
+use Rattle.std.proofs.lemmas.List.{drop-drop}
 use Rattle.fields.specs.Bytes.{pick}
 use Rattle.rules.specs.declared.Rule.{Rule}
 use Rattle.rules.specs.Rules.{number}
@@ -119,14 +121,13 @@ pub written-room : (n rule instance place : ℕ) (list : List ℕ) → n < lengt
 unfolding written
 written-room n rule instance place list h = rw (lt-ltb n (length list / 4) h)
 
--- as stored one after the other
-pub written-set : (n rule instance place : ℕ) (list : List ℕ) → n < length list / 4 → {i p : ℕ} → i ≡ instance % 4294967296 → p ≡ place % 4294967296
-    → set (set (set (set list (4 * n) rule) (4 * n + 1) i) (4 * n + 2) p) (4 * n + 3) 0 ≡ written n rule instance place list
-written-set n rule instance place list h d e =
-    let a : 4 * n + 1 ≡ suc (4 * n) = omega arith in
-    let b : 4 * n + 2 ≡ suc (suc (4 * n)) = omega arith in
-    let c : 4 * n + 3 ≡ suc (suc (suc (4 * n))) = omega arith in
-    rw (a, b, c, d, e) (sym (written-room n rule instance place list h))
+-- as copied there
+pub written-copied : (n rule instance place : ℕ) (list : List ℕ) → n < length list / 4 → {i p k : ℕ} {numbers : List ℕ} → i ≡ instance % 4294967296 → p ≡ place % 4294967296
+    → k ≡ 4 → numbers ≡ rule ∷ i ∷ p ∷ 0 ∷ [] → put_mid (4 * n) k list numbers ≡ written n rule instance place list
+written-copied n rule instance place list h d e f g =
+    rw (f, g, d, e) (ap (λ (l : List ℕ). take (4 * n) list ++ (four rule instance place ++ l)) (drop-drop 4 (4 * n) list)
+    ∙ sym (append_assoc (take (4 * n) list) (four rule instance place) _)
+    ∙ sym (sets-eq (four rule instance place) list (4 * n) (omega (arith, h))) ∙ sym (written-room n rule instance place list h))
 
 -- 4. Breaches
 

@@ -17,7 +17,7 @@ use Rattle.items.proofs.RisingPlaces.{number-rises}
 use Rattle.rules.specs.Rules as rules
 use Rattle.rules.specs.Steps.{Step, s5, s6, s19, flow_steps, bracket, over, param_items, purity_items, stitch_runs, flow_runs}
 use Rattle.broken.specs.declared.Scope.{Scope}
-use Rattle.broken.specs.Scopes.{body_run, ScopeReady, known_in, here_in}
+use Rattle.broken.specs.Scopes.{body_run, ScopeReady, Ready, known_in, here_in}
 use Rattle.steps.specs.declared.Tally.{Tally}
 use Rattle.steps.specs.declared.bodies.Course.{Course}
 use Rattle.steps.specs.declared.context.Knot.{Knot}
@@ -27,9 +27,9 @@ use Rattle.steps.specs.Clear.{clear_along, among}
 use Rattle.steps.specs.Looks.{look_rules}
 use Rattle.steps.specs.Turns.{ScopeIs}
 use Rattle.steps.specs.Scopes.{kept_flows, FlowsReady}
-use Rattle.steps.specs.Headings.{HeadingReady, FlowIs}
-use Rattle.steps.specs.Courses.{CourseReady}
-use Rattle.steps.specs.Stories.{course_of, first_heard, KnotReady, FlowTurnReady, StoryTurnReady}
+use Rattle.steps.specs.Headings.{FlowIs}
+use Rattle.steps.specs.Courses.{own_course, CourseReady}
+use Rattle.steps.specs.Stories.{first_heard, KnotReady, FlowTurnReady, StoryTurnReady}
 use Rattle.steps.proofs.Coursing.{course-clear}
 use Rattle.steps.proofs.Runs.{Through, through-start, through-next}
 use Rattle.steps.proofs.Order.{flow-heard}
@@ -38,62 +38,61 @@ use Rattle.steps.proofs.Places.{body-within, knot-is, knot-body, knot_ready}
 use Rattle.steps.proofs.Idle.{idle_body}
 
 module _ {file kept set : List ℕ} {k : Knot} (ready : KnotReady file kept set k) where
-  pub knot-scope-ready : ScopeReady file kept k.scope
+  pub knot-scope-ready : ScopeReady file kept k.site.scope
   knot-scope-ready = rw ready.scope_is (knot_ready file kept k.flow ready.flow_ready)
 
-  pub knot-scope-is : {sections : Sections} → ScopeIs file kept sections k.scope (rules.knot (kept_flow file kept k.flow))
+  pub knot-scope-is : {sections : Sections} → ScopeIs file kept sections k.site.scope (rules.knot (kept_flow file kept k.flow))
   knot-scope-is {sections} = rw ready.scope_is (knot-is file kept k.flow ready.flow_ready sections)
 
   -- its own list
-  pub knot-items : items_at file (body_run kept k.scope) ≡ (kept_flow file kept k.flow).body
+  pub knot-items : items_at file (body_run kept k.site.scope) ≡ (kept_flow file kept k.flow).body
   knot-items = rw ready.scope_is (knot-body file kept k.flow ready.flow_ready)
 
   -- its heading can be visited
-  pub knot-heading : (at : ℕ) (function : Bool) (tally : Tally)
-      → HeadingReady file kept set [] (record { scope = k.scope; rests = k.rests; at = at; function = function; tally = tally })
-  knot-heading at function tally = record {
+  pub knot-heading : Ready file kept set [] k.site 0
+  knot-heading = record {
     scope_ready = knot-scope-ready;
     knot_set = ready.knot_set;
-    body_set = idle_body file kept k.scope k.rests ready.own ready.gathers;
+    body_set = idle_body file kept k.site ready.own ready.gathers;
   }
 
   -- the heading is the flow's
   pub knot-flow-is : (tally : Tally)
-      → FlowIs file kept (record { scope = k.scope; rests = k.rests; at = k.flow.at; function = k.flow.function; tally = tally }) (kept_flow file kept k.flow)
+      → FlowIs file kept (record { site = k.site; at = k.flow.at; function = k.flow.function; tally = tally }) (kept_flow file kept k.flow)
   knot-flow-is tally = record { place = refl; name = rw ready.scope_is; body = sym knot-items }
 
   -- steps along its own list can run
-  pub knot-course : (tally : Tally) → CourseReady file kept set (course_of k tally)
+  pub knot-course : (tally : Tally) → CourseReady file kept set (own_course k.site k.flow.function tally)
   knot-course tally = record {
     scope_ready = knot-scope-ready;
     knot_set = ready.knot_set;
   }
 
   -- its parameters stand inside the file
-  pub knot-params : k.scope.params < length file
+  pub knot-params : k.site.scope.params < length file
   knot-params = rw ready.scope_is ready.flow_ready.params
 
   -- what its first two steps hear
   pub first-told : (sections : Sections) (h : Heard) {g r : Heard}
       → g ≡ hear_runs (kept_story sections file) h (over (rules.knot (kept_flow file kept k.flow)) (purity_items k.flow.function (kept_flow file kept k.flow)) (s5 ∷ []))
-      → r ≡ hear_runs (kept_story sections file) g (over (rules.knot (kept_flow file kept k.flow)) (param_items (counted_in k.scope.params (drop k.scope.params file))) (s6 ∷ []))
+      → r ≡ hear_runs (kept_story sections file) g (over (rules.knot (kept_flow file kept k.flow)) (param_items (counted_in k.site.scope.params (drop k.site.scope.params file))) (s6 ∷ []))
       → r ≡ first_heard sections file kept k h
   first-told sections h p q =
-      let own : k.scope.params ≡ k.flow.params = ap (λ (s : Scope). s.params) ready.scope_is in
+      let own : k.site.scope.params ≡ k.flow.params = ap (λ (s : Scope). s.params) ready.scope_is in
       rw (← p) (rw own at q)
 
   -- steps along its own list, as they were run
-  pub own-told : (steps : List Step) {sections : Sections} {c : Course} {tally : Tally} {r : Heard} (list : List ℕ) → c ≡ course_of k tally
-      → ((s : rules.Scope) → ScopeIs file kept sections c.scope s
-      → r ≡ hear_runs (kept_story sections file) (heard c.tally list) (over s (items_at file (body_run kept c.scope)) steps))
+  pub own-told : (steps : List Step) {sections : Sections} {c : Course} {tally : Tally} {r : Heard} (list : List ℕ) → c ≡ own_course k.site k.flow.function tally
+      → ((s : rules.Scope) → ScopeIs file kept sections c.site.scope s
+      → r ≡ hear_runs (kept_story sections file) (heard c.tally list) (over s (items_at file (body_run kept c.site.scope)) steps))
       → r ≡ hear_runs (kept_story sections file) (heard tally list) (over (rules.knot (kept_flow file kept k.flow)) (kept_flow file kept k.flow).body steps)
   own-told steps list e p = rw knot-items at ((rw e at p) (rules.knot (kept_flow file kept k.flow)) knot-scope-is)
 
   -- where the look found it clear, and tests all their rules
-  pub own-passed : (sections : Sections) {b : Bool} → b ≡ clear_along (known_in sections file) (here_in file kept k.scope) (look_rules false k.flow.function) [] (items_at file (body_run kept k.scope)) → b ≡ true
+  pub own-passed : (sections : Sections) {b : Bool} → b ≡ clear_along (known_in sections file) (here_in file kept k.site.scope) (look_rules false k.flow.function) [] (items_at file (body_run kept k.site.scope)) → b ≡ true
       → (steps : List Step) → among (each bracket steps) (look_rules false k.flow.function) ≡ true → (tally : Tally) {r : Tally} (list : List ℕ) → r ≡ passed (length steps) tally
       → heard r list ≡ hear_runs (kept_story sections file) (heard tally list) (over (rules.knot (kept_flow file kept k.flow)) (kept_flow file kept k.flow).body steps)
-  own-passed sections e f steps tested tally list p = own-told steps list refl (course-clear sections file kept (course_of k tally) steps tested e f p list)
+  own-passed sections e f steps tested tally list p = own-told steps list refl (course-clear sections file kept (own_course k.site k.flow.function tally) steps tested e f p list)
 
   -- what all its steps hear
   pub knot-told : (sections : Sections) (h : Heard) {a b c d : Heard} → a ≡ first_heard sections file kept k h

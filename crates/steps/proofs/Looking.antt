@@ -142,8 +142,8 @@ module _ (sections : Sections) (file kept : List ℕ) (at : At) where
   -- what is answered for all rules is what is answered for those that are left
   pub record ClearLeft (rs left : List Rule) : Type 0 where
     pub says : (w : What) → ThingIs file at.thing w
-        → clear_of (known_in sections file) (here_in file kept at.scope) rs (before_at file kept at) w
-        ≡ clear_of (known_in sections file) (here_in file kept at.scope) left (before_at file kept at) w
+        → clear_of (known_in sections file) (here_in file kept at.site.scope) rs (before_at file kept at) w
+        ≡ clear_of (known_in sections file) (here_in file kept at.site.scope) left (before_at file kept at) w
 
   -- before the first
   pub clear-start : (rs : List Rule) → ClearLeft rs rs
@@ -172,10 +172,10 @@ module _ (sections : Sections) (file kept : List ℕ) (at : At) where
   clear-by-sort inner function {rs} {x} e c = record { says = says }
     where
       says : (w : What) → ThingIs file at.thing w
-          → x ≡ clear_of (known_in sections file) (here_in file kept at.scope) (look_rules inner function) (before_at file kept at) w
+          → x ≡ clear_of (known_in sections file) (here_in file kept at.site.scope) (look_rules inner function) (before_at file kept at) w
       says w i =
           let k = known_in sections file in
-          let h = here_in file kept at.scope in
+          let h = here_in file kept at.site.scope in
           let before = before_at file kept at in
           let own : of_sort w.kind (look_rules inner function) ≡ rs = look-table inner function w.kind ∙ ap (look_table inner function) i.sort ∙ sym e in
           c.says w i ∙ sym (clear-sort k h before (look_rules inner function) w ∙ ap (λ (l : List Rule). clear_of k h l before w) own)

@@ -2,60 +2,36 @@
 use mathlib.Core.Path.{◌≡◌, refl, sym, ap, ◌∙◌}
 use mathlib.Core.Bool.{Bool, true, false}
 use mathlib.Core.List.{List, [], ◌∷◌}
-use Prim.Native.Nat.{ℕ, suc, ◌+◌, ◌≤◌, ◌<◌}
-use native.Mathlib.Numerals.{add-one}
-use native.Mathlib.Omega.{arith}
+use Prim.Native.Nat.{ℕ}
 use lib.Dec.{T}
-use lib.ListN.{length, get_or, drop, length-drop}
-use lib.Seq.{drop-drop, drop-cons, get_or-drop}
+use lib.ListN.{drop}
 use Rattle.story.specs.declared.Sections.{Sections}
+use Rattle.names.specs.Words.{Bytes}
 use Rattle.names.specs.Counted.{name_at}
 use Rattle.records.specs.declared.sorts.Sort.{Sort as Kind}
 use Rattle.records.specs.declared.sorts.Sort.TheVariants.{Parameter as parameter, StitchName as stitch_name, FlowStart as flow_start}
 use Rattle.records.specs.Items.{What, Item}
-use Rattle.story.specs.Story.{Story, Flow}
-use Rattle.story.specs.Flows.{names_n, counted_in}
-use Rattle.story.proofs.Unfolding.{names-n-zero, names-n-none}
+use Rattle.story.specs.Story.{Name, Story, Flow}
+use Rattle.story.specs.Flows.{counted_in}
 use Rattle.items.specs.Bodies.{items_at, kept_story}
 use Rattle.rules.specs.declared.Rule.{Rule}
 use Rattle.rules.specs.Rules as rules
 use Rattle.rules.specs.Steps.{Step, s5, s6, s12, bracket, Run, run, over, name_item, param_items, purity_items}
-use Rattle.broken.specs.Scopes.{body_run, Ready}
+use Rattle.broken.specs.Scopes.{body_run}
 use Rattle.steps.specs.declared.Tally.{Tally}
-use Rattle.steps.specs.declared.brackets.Step as code
 use Rattle.steps.specs.declared.brackets.Step.TheVariants.{StitchName, Parameters, Purity}
 use Rattle.steps.specs.declared.headings.Heading.{Heading}
 use Rattle.steps.specs.declared.headings.NameVisit.{NameVisit}
 use Rattle.steps.specs.Heard.{is_full, passed, Heard, heard, hear_all, run_now, hear_runs}
 use Rattle.steps.specs.Brackets.{step_of}
 use Rattle.steps.specs.Visits.{LikeThing, found}
-use Rattle.steps.specs.Turns.{ScopeIs, TurnReady, turn_run}
-use Rattle.steps.specs.Headings.{named, turn_of, HeadingReady, name_thing, name_visit, NameHeard, FlowIs}
+use Rattle.steps.specs.Turns.{ScopeIs, turn_at, turn_run}
+use Rattle.steps.specs.Headings.{named, name_thing, name_visit, NameHeard, FlowIs}
 use Rattle.steps.proofs.Runs.{runs-full}
 use Rattle.steps.proofs.Before.{all_ahead, looks_ahead, run-after}
 use Rattle.steps.proofs.Turning.{visit-found}
 
--- 1. What is ready
-
--- a step on the heading has all that it may ask
-pub heading-turn : {file kept knot body : List ℕ} {h : Heading} → HeadingReady file kept knot body h → (step : code.Step) (tally : Tally)
-    → TurnReady file kept knot body (turn_of h step tally)
-heading-turn ready step tally = record {
-  scope_ready = ready.scope_ready;
-  knot_set = ready.knot_set;
-  body_set = ready.body_set;
-}
-
--- and the visit of a name
-pub name-ready : {file kept knot body : List ℕ} (v : NameVisit) → TurnReady file kept knot body v.turn
-    → Ready file kept knot body (name_visit v).at
-name-ready v ready = record {
-  scope_ready = ready.scope_ready;
-  knot_set = ready.knot_set;
-  body_set = ready.body_set;
-}
-
--- 2. One name
+-- 1. One name
 
 -- what is found at the name, by the numbers at hand, is what the rules find there
 pub name-heard : {sections : Sections} {file kept list list' : List ℕ} {v : NameVisit} {r : Tally} {rs : List Rule} → rs ≡ bracket (step_of v.turn.step)
@@ -71,7 +47,7 @@ name-heard {sections} {file} {kept} {list} {list'} {v} {r} e told = record {
 
 -- a run over the name and other items: the others are left
 pub name-after : {sections : Sections} {file kept list list' : List ℕ} {v : NameVisit} {r : Tally} → NameHeard sections file kept list v r list'
-    → {s : rules.Scope} → ScopeIs file kept sections v.turn.scope s → (k : Kind) → k ≡ v.sort
+    → {s : rules.Scope} → ScopeIs file kept sections v.turn.site.scope s → (k : Kind) → k ≡ v.sort
     → (step : Step) → step_of v.turn.step ≡ step → T (all_ahead (bracket step)) → (items : List Item)
     → hear_runs (kept_story sections file) (heard v.turn.tally list) (run s (name_item k v.place (named file v.named) ∷ items) step ∷ [])
     ≡ hear_runs (kept_story sections file) (heard r list') (run s items step ∷ [])
@@ -91,12 +67,12 @@ over-one : (s : rules.Scope) (items : List Item) (step : Step) → over s items 
 unfolding over
 over-one s items step = refl
 
--- 3. Step 12
+-- 2. Step 12
 
 -- the stitch's name was visited: that is the whole run
 pub stitch-name : {sections : Sections} {file kept list list' : List ℕ} (h : Heading) {r r' : Tally}
-    → NameHeard sections file kept list (record { turn = turn_of h StitchName h.tally; sort = stitch_name; place = h.at; named = h.at }) r list' → r' ≡ passed 1 r
-    → (s : rules.Scope) → ScopeIs file kept sections h.scope s
+    → NameHeard sections file kept list (record { turn = turn_at h.site StitchName h.tally; sort = stitch_name; place = h.at; named = h.at }) r list' → r' ≡ passed 1 r
+    → (s : rules.Scope) → ScopeIs file kept sections h.site.scope s
     → heard r' list' ≡ hear_runs (kept_story sections file) (heard h.tally list) (over s (name_item stitch_name h.at (named file h.at) ∷ []) (s12 ∷ []))
 unfolding all_ahead looks_ahead
 stitch-name {sections} {file} {kept} {list} {list'} h {r} told e s q =
@@ -104,71 +80,56 @@ stitch-name {sections} {file} {kept} {list} {list'} h {r} told e s q =
     ∙ sym (ap (hear_runs (kept_story sections file) (heard h.tally list)) (over-one s (name_item stitch_name h.at (named file h.at) ∷ []) s12)
     ∙ name-after told q stitch_name refl s12 refl tt [])
 
--- 4. Step 6
-
--- the first of the names that are left
-names-first : (file : List ℕ) (n at : ℕ) → at < length file
-    → names_n (n + 1) at (drop at file) ≡ named file at ∷ names_n n (at + (1 + get_or file at 0)) (drop (at + (1 + get_or file at 0)) file)
-unfolding names_n name_at
-names-first file n at k =
-    let after : at + (1 + get_or file at 0) ≡ suc at + get_or file at 0 = omega arith in
-    rw (add-one n, add-one at, drop-cons file at 0 k, after, drop-drop (get_or file at 0) (suc at) file)
+-- 3. Step 6
 
 -- step 6 over all parameters
 abbrev param_runs : List ℕ → Heading → rules.Scope → List Run
-param_runs file h s = over s (param_items (counted_in h.scope.params (drop h.scope.params file))) (s6 ∷ [])
+param_runs file h s = over s (param_items (counted_in h.site.scope.params (drop h.site.scope.params file))) (s6 ∷ [])
 
--- what is to be heard of all parameters is what is to be heard of so many from the place on
-pub record ParamsLeft (sections : Sections) (file kept : List ℕ) (h : Heading) (list₀ list : List ℕ) (tally : Tally) (left at : ℕ) : Type 0 where
-  pub rest : (s : rules.Scope) → ScopeIs file kept sections h.scope s
+-- what is to be heard of all parameters is what is to be heard of those that are left
+pub record ParamsLeft (sections : Sections) (file kept : List ℕ) (h : Heading) (list₀ list : List ℕ) (tally : Tally) (left : List Name) : Type 0 where
+  pub rest : (s : rules.Scope) → ScopeIs file kept sections h.site.scope s
       → hear_runs (kept_story sections file) (heard h.tally list₀) (param_runs file h s)
-      ≡ hear_runs (kept_story sections file) (heard tally list) (run s (param_items (names_n left at (drop at file))) s6 ∷ [])
+      ≡ hear_runs (kept_story sections file) (heard tally list) (run s (param_items left) s6 ∷ [])
 
 -- no parameter was visited
-pub params-start : {sections : Sections} (file kept : List ℕ) (h : Heading) (list : List ℕ) {left : ℕ} → left ≡ get_or file h.scope.params 0 → ParamsLeft sections file kept h list list h.tally left (h.scope.params + 1)
-unfolding counted_in over
-params-start file kept h list e =
-    let params = h.scope.params in
-    let zero-on : params + 0 ≡ params = omega arith in record { rest = λ s q. rw (e, get_or-drop params file 0 0, zero-on, drop-drop 1 params file) }
+pub params-start : {sections : Sections} (file kept : List ℕ) (h : Heading) (list : List ℕ) {left : List Name} → left ≡ counted_in h.site.scope.params (drop h.site.scope.params file)
+    → ParamsLeft sections file kept h list list h.tally left
+unfolding over
+params-start file kept h list e = record { rest = λ s q. rw e refl }
 
-module _ {sections : Sections} {file kept : List ℕ} {h : Heading} {list₀ list : List ℕ} {tally : Tally} {left at : ℕ} (more : ParamsLeft sections file kept h list₀ list tally left at) where
+module _ {sections : Sections} {file kept : List ℕ} {h : Heading} {list₀ list : List ℕ} {tally : Tally} {left : List Name} (more : ParamsLeft sections file kept h list₀ list tally left) where
   -- the next parameter was visited
-  pub params-next : {left' : ℕ} → left' + 1 ≡ left → at < length file → {list' : List ℕ} {r : Tally}
-      → NameHeard sections file kept list (record { turn = turn_of h Parameters tally; sort = parameter; place = at; named = at }) r list'
-      → ParamsLeft sections file kept h list₀ list' r left' (at + (1 + get_or file at 0))
+  pub params-next : {n : Name} {left' : List Name} → left ≡ n ∷ left' → n.bytes ≡ name_at file n.at → {list' : List ℕ} {r : Tally}
+      → NameHeard sections file kept list (record { turn = turn_at h.site Parameters tally; sort = parameter; place = n.at; named = n.at }) r list'
+      → ParamsLeft sections file kept h list₀ list' r left'
   unfolding all_ahead looks_ahead
-  params-next {left'} p q told = record {
-    rest = λ s k. more.rest s k ∙ rw (← p, names-first file left' at q) (name-after told k parameter refl s6 refl tt _);
-  }
+  params-next {n} {left'} p q told =
+      let front : n ≡ named file n.at = ap (λ (b : Bytes). record { at = n.at; bytes = b }) q in
+      record { rest = λ s k. more.rest s k ∙ rw p (ap (λ (m : Name). hear_runs (kept_story sections file) (heard tally list) (run s (name_item parameter n.at m ∷ param_items left') s6 ∷ [])) front ∙ name-after told k parameter refl s6 refl tt _) }
 
-  module _ (s : rules.Scope) (k : ScopeIs file kept sections h.scope s) where
+  module _ (s : rules.Scope) (k : ScopeIs file kept sections h.site.scope s) where
     -- no parameter is left
-    pub params-end : left ≤ 0 → {r : Tally} → r ≡ passed 1 tally
+    pub params-end : left ≡ [] → {r : Tally} → r ≡ passed 1 tally
         → heard r list ≡ hear_runs (kept_story sections file) (heard h.tally list₀) (param_runs file h s)
-    params-end z e = run_none (kept_story sections file) s s6 tally list e ∙ sym (more.rest s k ∙ rw (names-n-zero left at (drop at file) z))
-
-    -- the file ends before them
-    pub params-past : length file ≤ at → {r : Tally} → r ≡ passed 1 tally
-        → heard r list ≡ hear_runs (kept_story sections file) (heard h.tally list₀) (param_runs file h s)
-    params-past z e =
-        run_none (kept_story sections file) s s6 tally list e ∙ sym (more.rest s k ∙ rw (names-n-none left at (drop at file) (omega (arith, length-drop at file))))
+    params-end z e = run_none (kept_story sections file) s s6 tally list e ∙ sym (more.rest s k ∙ rw z refl)
 
     -- no more is heard
     pub params-full : {b : Bool} → b ≡ is_full tally → b ≡ true
         → heard tally list ≡ hear_runs (kept_story sections file) (heard h.tally list₀) (param_runs file h s)
-    params-full e f = sym (more.rest s k ∙ runs-full (kept_story sections file) (heard tally list) (sym e ∙ f) (run s (param_items (names_n left at (drop at file))) s6 ∷ []))
+    params-full e f = sym (more.rest s k ∙ runs-full (kept_story sections file) (heard tally list) (sym e ∙ f) (run s (param_items left) s6 ∷ []))
 
--- 5. Step 5
+-- 4. Step 5
 
-module _ {sections : Sections} {file kept : List ℕ} {h : Heading} (s : rules.Scope) (f : Flow) (k : ScopeIs file kept sections h.scope s) (same : FlowIs file kept h f) where
+module _ {sections : Sections} {file kept : List ℕ} {h : Heading} (s : rules.Scope) (f : Flow) (k : ScopeIs file kept sections h.site.scope s) (same : FlowIs file kept h f) where
   -- a function: its first byte was visited, then its own list
   pub purity-function : {list list₁ list' : List ℕ} {t r : Tally} → h.function ≡ true
-      → NameHeard sections file kept list (record { turn = turn_of h Purity h.tally; sort = flow_start; place = h.at; named = h.scope.flow }) t list₁
-      → heard r list' ≡ hear_runs (kept_story sections file) (heard t list₁) (turn_run file kept (turn_of h Purity t) s ∷ [])
+      → NameHeard sections file kept list (record { turn = turn_at h.site Purity h.tally; sort = flow_start; place = h.at; named = h.site.scope.flow }) t list₁
+      → heard r list' ≡ hear_runs (kept_story sections file) (heard t list₁) (turn_run file kept (turn_at h.site Purity t) s ∷ [])
       → heard r list' ≡ hear_runs (kept_story sections file) (heard h.tally list) (over s (purity_items h.function f) (s5 ∷ []))
   unfolding all_ahead looks_ahead over
   purity-function there told rest =
-      rw (there, same.place, same.name, same.body) (rest ∙ sym (name-after told k flow_start refl s5 refl tt (items_at file (body_run kept h.scope))))
+      rw (there, same.place, same.name, same.body) (rest ∙ sym (name-after told k flow_start refl s5 refl tt (items_at file (body_run kept h.site.scope))))
 
   -- another flow
   pub purity-none : {list : List ℕ} {r : Tally} → h.function ≡ false → r ≡ passed 1 h.tally

@@ -12,6 +12,7 @@ use Rattle.story.specs.Plain.{without_plain}
 use Rattle.story.specs.Flows.{names_n, counted_in, part}
 use Rattle.story.specs.File.{InOrder}
 use Rattle.story.proofs.Readable.{readable}
+use Rattle.searches.specs.Counted.{counted_at}
 use Rattle.searches.specs.declared.views.FlowView.{FlowView}
 use Rattle.searches.specs.declared.views.StitchView.{StitchView}
 use Rattle.records.specs.Numbers.{between}
@@ -21,7 +22,7 @@ use Rattle.items.proofs.RisingPlaces.{number_fits, number-rises, run-by-numbers}
 use Rattle.items.proofs.Kept.{kept-rising, root-plain}
 use Rattle.rules.specs.Rules.{here, root, knot, stitch}
 use Rattle.rules.proofs.Order.{same_here}
-use Rattle.broken.specs.Scopes.{counted_at, declared_in, here_in, ScopeReady, body_run}
+use Rattle.broken.specs.Scopes.{declared_in, here_in, ScopeReady, body_run}
 use Rattle.steps.specs.Turns.{ScopeIs}
 use Rattle.steps.specs.Scopes.{root_scope, knot_scope, stitch_scope, FlowReady, StitchReady}
 

@@ -1,5 +1,6 @@
 -- The steps of the root, and of a whole story: all is ready for them, and what they hear is what the runs find. Assumes nothing.
 use mathlib.Core.Path.{◌≡◌}
+use mathlib.Core.Bool.{false}
 use mathlib.Core.List.{List, [], ◌∷◌}
 use Prim.Native.Nat.{ℕ}
 use native.Mathlib.Omega.{arith}
@@ -16,8 +17,8 @@ use Rattle.steps.specs.declared.bodies.Course.{Course}
 use Rattle.steps.specs.Heard.{Heard, heard, hear_runs}
 use Rattle.steps.specs.Turns.{ScopeIs}
 use Rattle.steps.specs.Scopes.{root_scope}
-use Rattle.steps.specs.Courses.{CourseReady}
-use Rattle.steps.specs.Stories.{root_course, StoryTurnReady}
+use Rattle.steps.specs.Courses.{own_course, CourseReady}
+use Rattle.steps.specs.Stories.{StoryTurnReady}
 use Rattle.steps.proofs.Order.{story-heard}
 use Rattle.steps.proofs.Places.{root_is, root-body, root-ready}
 
@@ -32,7 +33,7 @@ module _ {sections : Sections} {file kept : List ℕ} (read : Kept file sections
   root-items = rw e (root-body read)
 
   -- steps along the root can run
-  pub root-course-ready : {set : List ℕ} {n : Rests} {c : Course} {tally : Tally} → c ≡ root_course s n tally → KnotSet file kept s n set
+  pub root-course-ready : {set : List ℕ} {n : Rests} {c : Course} {tally : Tally} → c ≡ own_course (record { scope = s; rests = n }) false tally → KnotSet file kept (record { scope = s; rests = n }) set
       → CourseReady file kept set c
   root-course-ready q k = rw q (record {
     scope_ready = root-scope-ready;
@@ -44,9 +45,9 @@ module _ {sections : Sections} {file kept : List ℕ} (read : Kept file sections
   root-flows-ready tally = record { before = rw e (omega arith) }
 
   -- what steps along it hear
-  pub root-told : (steps : List Step) {n : Rests} {c : Course} {tally : Tally} {r : Heard} (list : List ℕ) → c ≡ root_course s n tally
-      → ((z : rules.Scope) → ScopeIs file kept sections c.scope z
-      → r ≡ hear_runs (kept_story sections file) (heard c.tally list) (over z (items_at file (body_run kept c.scope)) steps))
+  pub root-told : (steps : List Step) {n : Rests} {c : Course} {tally : Tally} {r : Heard} (list : List ℕ) → c ≡ own_course (record { scope = s; rests = n }) false tally
+      → ((z : rules.Scope) → ScopeIs file kept sections c.site.scope z
+      → r ≡ hear_runs (kept_story sections file) (heard c.tally list) (over z (items_at file (body_run kept c.site.scope)) steps))
       → r ≡ hear_runs (kept_story sections file) (heard tally list) (over rules.root (kept_story sections file).root steps)
   root-told steps list q p = rw root-items at ((rw q at p) rules.root root-scope-is)
 

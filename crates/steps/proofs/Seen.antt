@@ -1,23 +1,24 @@
 -- A flow or a stitch that is seen at a place, and those after it. Assumes nothing.
-use Rattle.std.specs.Prelude.{Option, Some, None, is_some}
+use Rattle.std.specs.Prelude.{Option, Some, None}
 use mathlib.Core.Path.{◌≡◌, refl, ap}
 use mathlib.Core.List.{List, [], ◌∷◌, map}
 use Prim.Native.Nat.{ℕ, ◌-◌, ◌≤◌, ◌<◌}
 use native.Mathlib.Omega.{arith}
 use Rattle.story.specs.declared.Sections.{Sections}
-use Rattle.story.specs.Plain.{stitch_without_plain, flow_without_plain, without_plain}
+use Rattle.story.specs.Plain.{flow_without_plain, without_plain}
 use Rattle.story.specs.File.{story_in}
 use Rattle.story.proofs.Readable.{readable}
 use Rattle.searches.specs.declared.views.FlowView.{FlowView}
 use Rattle.searches.specs.declared.views.StitchView.{StitchView}
 use Rattle.searches.specs.Views.{flow_view_of, stitch_view_of}
-use Rattle.searches.proofs.Viewed.{FlowLaid, flow-laid, StitchLaid, stitch-viewed, stitch-laid}
-use Rattle.searches.proofs.Readable.{flow-readable, no_flow, no-stitch, stitch-readable}
+use Rattle.searches.proofs.Viewed.{FlowLaid, flow-laid, StitchLaid, stitch-laid}
+use Rattle.searches.proofs.Readable.{flow-readable, no_flow}
 use Rattle.items.specs.Bodies.{kept_story, kept_stitch, kept_stitches, kept_flow, Kept, StitchesKept}
 use Rattle.items.specs.Runs.{number_before}
+use Rattle.items.specs.Stitches.{StitchesReady}
 use Rattle.items.proofs.RisingPlaces.{number-rises}
 use Rattle.items.proofs.Kept.{kept-flows, flow-stitches, flow-rest, flows-plain, flow-labels, stitch-rest, stitches-plain}
-use Rattle.steps.specs.Scopes.{has_stitches, StitchesReady, FlowReady, StitchReady, kept_flows, FlowsReady}
+use Rattle.steps.specs.Scopes.{FlowReady, StitchReady, kept_flows, FlowsReady}
 
 module _ (file kept : List ℕ) (at end : ℕ) (ready : FlowsReady file kept at end) {r : Option FlowView} (told : r ≡ flow_view_of file at end) where
   -- no flow is left
@@ -71,10 +72,6 @@ module _ (file kept : List ℕ) (at end : ℕ) (ready : FlowsReady file kept at 
     flows-fewer = let o = flow-order in omega arith
 
 module _ (file : List ℕ) (at end : ℕ) (ready : StitchesReady file at end) {r : Option StitchView} (told : r ≡ stitch_view_of file at end) where
-  -- no stitch is left
-  pub no-stitches : r ≡ None → kept_stitches file at end ≡ []
-  no-stitches q = ap (map stitch_without_plain) (no-stitch file at end ready.good told q)
-
   module _ (w : StitchView) (q : r ≡ Some w) where
     -- its parts stand in order
     stitch-order : StitchLaid at end w
@@ -86,15 +83,6 @@ module _ (file : List ℕ) (at end : ℕ) (ready : StitchesReady file at end) {r
         let o = stitch-order in
         record { params = omega (arith, o, ready); marks = omega (arith, o, ready); ordered = o.from }
 
-    -- the stitches after it can be read
-    pub stitches-after : StitchesReady file w.end end
-    stitches-after = record {
-      ordered = stitch-order.within;
-      within = ready.within;
-      short = ready.short;
-      good = (stitch-readable file at end ready.good told w q).rest;
-    }
-
     -- the items that stand before the place stand before its body
     pub stitch-number : (kept : List ℕ) {start : ℕ} → start ≤ number_before at kept → start ≤ number_before w.from kept
     stitch-number kept h = omega (arith, h, number-rises at w.from (omega (arith, stitch-order)) kept)
@@ -103,10 +91,6 @@ module _ (file : List ℕ) (at end : ℕ) (ready : StitchesReady file at end) {r
     pub stitch-last : (kept : List ℕ) → number_before w.to kept ≤ number_before w.end kept
     stitch-last kept = number-rises w.to w.end stitch-order.to kept
 
-    -- fewer bytes are left
-    pub stitches-fewer : end - w.end < end - at
-    stitches-fewer = let o = stitch-order in omega arith
-
     -- the kept numbers have it first, and then those after it
     module _ {kept : List ℕ} (own : StitchesKept file kept at end) where
       pub stitches-first : kept_stitches file at end ≡ kept_stitch file kept w ∷ kept_stitches file w.end end
@@ -114,11 +98,6 @@ module _ (file : List ℕ) (at end : ℕ) (ready : StitchesReady file at end) {r
 
       pub stitches-rest : StitchesKept file kept w.end end
       stitches-rest = stitch-rest file kept at end ready.ordered ready.within ready.short ready.good own w told q
-
--- a stitch is seen where there is one
-pub stitch-seen : (file : List ℕ) (at end : ℕ) → StitchesReady file at end → (r : Option StitchView) → r ≡ stitch_view_of file at end → is_some r ≡ has_stitches file at end
-stitch-seen file at end ready (Some w) told = rw (stitch-viewed file at end w told refl)
-stitch-seen file at end ready None told = rw (no-stitches file at end ready told refl)
 
 -- the items up to the end of a flow's body stand before its stitches
 pub stitches-start : {file kept : List ℕ} {v : FlowView} → FlowReady file kept v → number_before v.to kept ≤ number_before v.stitches kept

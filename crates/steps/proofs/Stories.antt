@@ -10,29 +10,30 @@ use Rattle.searches.specs.declared.views.StitchView.{StitchView}
 use Rattle.searches.specs.Views.{stitch_view_of}
 use Rattle.items.specs.Bodies.{items_at, kept_story, kept_stitch, kept_stitches, kept_flow, StitchesKept}
 use Rattle.items.specs.Runs.{number_before}
+use Rattle.items.specs.Stitches.{StitchesReady}
 use Rattle.items.proofs.RisingPlaces.{number-rises}
+use Rattle.items.proofs.StitchesLeft.{stitches-after}
 use Rattle.rules.specs.Rules as rules
 use Rattle.rules.specs.Steps.{s12, over, stitch_items, stitch_runs}
 use Rattle.broken.specs.declared.Scope.{Scope}
-use Rattle.broken.specs.Scopes.{body_run, ScopeReady, KnotSet}
+use Rattle.broken.specs.Scopes.{body_run, ScopeReady, KnotSet, Ready}
 use Rattle.steps.specs.declared.Tally.{Tally}
 use Rattle.steps.specs.declared.context.Knot.{Knot}
 use Rattle.steps.specs.declared.context.StitchTurn.{StitchTurn}
 use Rattle.steps.specs.Heard.{Heard, heard, hear_runs}
 use Rattle.steps.specs.Turns.{ScopeIs}
-use Rattle.steps.specs.Scopes.{knot_scope, stitch_scope, StitchesReady}
-use Rattle.steps.specs.Headings.{HeadingReady}
+use Rattle.steps.specs.Scopes.{knot_scope, stitch_scope}
 use Rattle.steps.specs.declared.brackets.Along.TheVariants as along
 use Rattle.steps.specs.Brackets.{steps_along}
 use Rattle.steps.specs.Courses.{CourseReady}
 use Rattle.steps.specs.Stories.{KnotReady, StitchTurnReady}
 use Rattle.steps.proofs.Runs.{Through, through-start, through-next}
 use Rattle.steps.proofs.Order.{stitch-heard}
-use Rattle.steps.proofs.Seen.{stitch-seen-ready, stitches-after, stitch-number, stitch-last, stitches-first, stitches-rest, stitches-start}
+use Rattle.steps.proofs.Seen.{stitch-seen-ready, stitch-number, stitch-last, stitches-first, stitches-rest, stitches-start}
 use Rattle.steps.proofs.Places.{stitch-is, stitch-body, stitch_ready}
 use Rattle.steps.proofs.Idle.{idle_body}
 
-module _ {file kept set : List ℕ} {k : Knot} (knot_ready : KnotReady file kept set k) {t : StitchTurn} (ready : StitchTurnReady file kept t) {s : Scope} (e : s ≡ stitch_scope kept k.scope t.stitch) where
+module _ {file kept set : List ℕ} {k : Knot} (knot_ready : KnotReady file kept set k) {t : StitchTurn} (ready : StitchTurnReady file kept t) {s : Scope} (e : s ≡ stitch_scope kept k.site.scope t.stitch) where
   -- by the flow
   at-knot : s ≡ stitch_scope kept (knot_scope file kept k.flow) t.stitch
   at-knot = e ∙ rw knot_ready.scope_is
@@ -44,21 +45,20 @@ module _ {file kept set : List ℕ} {k : Knot} (knot_ready : KnotReady file kept
   stitch-scope-is {sections} = rw at-knot (stitch-is file kept k.flow knot_ready.flow_ready t.stitch ready.stitch_ready sections)
 
   -- the knot's set is its own
-  pub stitch-knot-set : KnotSet file kept s k.rests set
+  pub stitch-knot-set : KnotSet file kept (record { scope = s; rests = k.site.rests }) set
   stitch-knot-set = rw e (record { labels = knot_ready.knot_set.labels; temps = knot_ready.knot_set.temps })
 
   -- its name can be visited
-  pub stitch-heading : (at : ℕ) (function : Bool) (tally : Tally)
-      → HeadingReady file kept set [] (record { scope = s; rests = k.rests; at = at; function = function; tally = tally })
-  stitch-heading at function tally = record {
+  pub stitch-heading : Ready file kept set [] (record { scope = s; rests = k.site.rests }) 0
+  stitch-heading = record {
     scope_ready = stitch-scope-ready;
     knot_set = stitch-knot-set;
-    body_set = idle_body file kept s k.rests knot_ready.own knot_ready.gathers;
+    body_set = idle_body file kept _ knot_ready.own knot_ready.gathers;
   }
 
   -- the steps along its body can run
   pub stitch-course : (inner function : Bool) (tally : Tally)
-      → CourseReady file kept set (record { scope = s; rests = k.rests; inner = inner; function = function; tally = tally })
+      → CourseReady file kept set (record { site = record { scope = s; rests = k.site.rests }; inner = inner; function = function; tally = tally })
   stitch-course inner function tally = record {
     scope_ready = stitch-scope-ready;
     knot_set = stitch-knot-set;
@@ -83,7 +83,7 @@ pub record Stitching (sections : Sections) (file kept : List ℕ) (k : Knot) (ta
       (kept_stitches file at k.flow.end)
 
 module _ {file kept set : List ℕ} {k : Knot} where
-  pub stitching-start : {sections : Sections} (tally : Tally) (list : List ℕ) → KnotReady file kept set k → Stitching sections file kept k tally list tally list k.flow.stitches k.scope.own
+  pub stitching-start : {sections : Sections} (tally : Tally) (list : List ℕ) → KnotReady file kept set k → Stitching sections file kept k tally list tally list k.flow.stitches k.site.scope.own
   stitching-start tally list ready = record {
     readable = ready.flow_ready.stitches;
     own = ready.flow_ready.own;

@@ -18,14 +18,13 @@ use Rattle.sets.proofs.Passing.{members-same}
 use Rattle.rules.specs.declared.Rule.{Rule}
 use Rattle.rules.specs.Rules as rules
 use Rattle.rules.specs.Steps as steps
-use Rattle.broken.specs.declared.Thing.{Thing}
 use Rattle.broken.specs.Scopes.{body_run, BodySet, Ready}
 use Rattle.steps.specs.declared.Tally.{Tally}
 use Rattle.steps.specs.declared.nodes.Turn.{Turn}
 use Rattle.steps.specs.Heard.{is_full, passed, breach_of, Heard, heard, hear_all, pass, run_now, hear_runs}
 use Rattle.steps.specs.Brackets.{step_of, on_gathers}
-use Rattle.steps.specs.Visits.{LikeThing, thing_of, found}
-use Rattle.steps.specs.Turns.{ScopeIs, TurnReady, turn_items, turn_run, rests_at, visit_of}
+use Rattle.steps.specs.Visits.{LikeThing, thing_of, site_at, found}
+use Rattle.steps.specs.Turns.{ScopeIs, turn_items, turn_run, visit_of}
 use Rattle.steps.proofs.Hearing.{passed-full}
 use Rattle.steps.proofs.Runs.{runs-one}
 use Rattle.steps.proofs.Visiting.{Along, along-start, along-end, along-full, along-next}
@@ -39,14 +38,14 @@ visit-found s u v a b c d e f = rw (← a, b, c, ← d, e, f)
 
 -- the first i items were visited: what the body's set has, whether it stayed, and what is heard
 pub record Turning (sections : Sections) (file kept : List ℕ) (t : Turn) (body₀ list₀ body list : List ℕ) (tally : Tally) (gathers i : ℕ) : Type 0 where
-  pub set : BodySet file kept t.scope (rests_at t.rests gathers) i body
+  pub set : BodySet file kept (site_at t.site gathers) i body
   pub stays : on_gathers (step_of t.step) ≡ false → body ≡ body₀
-  pub along : (s : rules.Scope) → ScopeIs file kept sections t.scope s
+  pub along : (s : rules.Scope) → ScopeIs file kept sections t.site.scope s
       → Along (kept_story sections file) (run_now (heard t.tally list₀) (turn_run file kept t s)) (turn_items file kept t) (heard t.tally list₀) (heard tally list) i
 
-module _ {file kept knot body : List ℕ} {t : Turn} (ready : TurnReady file kept knot body t) where
+module _ {file kept knot body : List ℕ} {t : Turn} (ready : Ready file kept knot body t.site 0) where
   -- no item was visited
-  pub turning-start : {sections : Sections} (list : List ℕ) → Turning sections file kept t body list body list t.tally t.rests.gathers 0
+  pub turning-start : {sections : Sections} (list : List ℕ) → Turning sections file kept t body list body list t.tally t.site.rests.gathers 0
   turning-start {sections} list = record {
     set = record { temps = ready.body_set.temps; gathers = ready.body_set.gathers };
     stays = λ l. refl;
@@ -54,8 +53,8 @@ module _ {file kept knot body : List ℕ} {t : Turn} (ready : TurnReady file kep
   }
 
   -- all that a rule may ask at the next item is ready
-  pub turning-ready : {sections : Sections} {list₀ body' list : List ℕ} {tally : Tally} {gathers i : ℕ} → Turning sections file kept t body list₀ body' list tally gathers i → {thing : Thing}
-      → Ready file kept knot body' (record { scope = t.scope; rests = rests_at t.rests gathers; thing = thing; number = i })
+  pub turning-ready : {sections : Sections} {list₀ body' list : List ℕ} {tally : Tally} {gathers i : ℕ} → Turning sections file kept t body list₀ body' list tally gathers i
+      → Ready file kept knot body' (site_at t.site gathers) i
   turning-ready u = record {
     scope_ready = ready.scope_ready;
     knot_set = record { labels = ready.knot_set.labels; temps = ready.knot_set.temps };
@@ -64,34 +63,34 @@ module _ {file kept knot body : List ℕ} {t : Turn} (ready : TurnReady file kep
 
 module _ {sections : Sections} {file kept : List ℕ} {t : Turn} {body₀ list₀ body list : List ℕ} {tally : Tally} {gathers i : ℕ} (u : Turning sections file kept t body₀ list₀ body list tally gathers i) where
   -- the next item was visited and passed
-  module _ (k : Kept file sections kept) (l : i < length (body_run kept t.scope)) {rs : List Rule} (e : rs ≡ steps.bracket (step_of t.step)) where
+  module _ (k : Kept file sections kept) (l : i < length (body_run kept t.site.scope)) {rs : List Rule} (e : rs ≡ steps.bracket (step_of t.step)) where
     pub turning-next : {body' list' : List ℕ} {tally' : Tally} {gathers' : ℕ}
-        → ((w : What) → LikeThing file (thing_of (get_or (body_run kept t.scope) i 0)) w
-        → heard tally' list' ≡ hear_all (heard tally list) (found sections file kept (visit_of t tally gathers i (get_or (body_run kept t.scope) i 0)) rs w))
-        → MembersPut sought.Gather file 2 (body_run kept t.scope) (i + 1) body body' gathers'
+        → ((w : What) → LikeThing file (thing_of (get_or (body_run kept t.site.scope) i 0)) w
+        → heard tally' list' ≡ hear_all (heard tally list) (found sections file kept (visit_of t tally gathers i (get_or (body_run kept t.site.scope) i 0)) rs w))
+        → MembersPut sought.Gather file 2 (body_run kept t.site.scope) (i + 1) body body' gathers'
         → (on_gathers (step_of t.step) ≡ false → body' ≡ body)
         → Turning sections file kept t body₀ list₀ body' list' tally' gathers' (i + 1)
     unfolding item_in
     turning-next heard-there put stay =
-        let run = body_run kept t.scope in
+        let run = body_run kept t.site.scope in
         let x = get_or run i 0 in
         record {
           set = record { temps = members-same u.set.temps (put.others 1 (λ z. omega arith)) put.members.reachable; gathers = put.members };
           stays = λ m. stay m ∙ u.stays m;
           along = λ s h. along-next (u.along s h) (item-there file run l)
-              (heard-there (item_in file x).what (like-thing file x (run-bears k t.scope.first t.scope.last l))
+              (heard-there (item_in file x).what (like-thing file x (run-bears k t.site.scope.first t.site.scope.last l))
               ∙ ap (hear_all (heard tally list))
               (visit-found (kept_story sections file) (run_now (heard t.tally list₀) (turn_run file kept t s)) (record { item = item_in file x; before = take i (whats (turn_items file kept t)) })
               h.names (u.along s h).instance refl h.flow refl e));
         }
 
-  module _ (s : rules.Scope) (h : ScopeIs file kept sections t.scope s) where
+  module _ (s : rules.Scope) (h : ScopeIs file kept sections t.site.scope s) where
     -- no item is left
-    pub turning-end : length (body_run kept t.scope) ≤ i → {r : Tally} → r ≡ passed 1 tally
+    pub turning-end : length (body_run kept t.site.scope) ≤ i → {r : Tally} → r ≡ passed 1 tally
         → heard r list ≡ hear_runs (kept_story sections file) (heard t.tally list₀) (turn_run file kept t s ∷ [])
     turning-end l e =
         ap (λ (x : Tally). heard x list) e
-        ∙ ap (λ (g : Heard). pass 1 g) (along-end (u.along s h) (omega (arith, items-length file (body_run kept t.scope))))
+        ∙ ap (λ (g : Heard). pass 1 g) (along-end (u.along s h) (omega (arith, items-length file (body_run kept t.site.scope))))
         ∙ sym (runs-one (kept_story sections file) (heard t.tally list₀) (turn_run file kept t s))
 
     -- no more is heard

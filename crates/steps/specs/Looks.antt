@@ -10,9 +10,8 @@ use Rattle.records.specs.Items.{What, same_kind}
 use Rattle.rules.specs.declared.Rule.{Rule}
 use Rattle.rules.specs.declared.Rule.TheVariants.{FunctionDivertedTo, TargetNotFound, FlowCalled, NameIsFunction, NameIsGlobal, TempIsParameter, TempIsLabel, ParameterUnmarked, ParameterAlreadyMarked, GatherRepeated, ChoiceUndiverted, FunctionWithStitches, FunctionWithChoice, FunctionWithDivert, VariableForbidden}
 use Rattle.broken.specs.declared.At.{At}
-use Rattle.broken.specs.declared.Thing.{Thing}
 use Rattle.broken.specs.Things.{ThingIs}
-use Rattle.broken.specs.Scopes.{known_in, here_in, before_at, ScopeReady, KnotSet, BodySet}
+use Rattle.broken.specs.Scopes.{known_in, here_in, before_at}
 use Rattle.steps.specs.Clear.{clear_of}
 
 -- 1. THE RULES OF A LOOK
@@ -113,21 +112,4 @@ look_table inner function flow_start = []
 -- the answer says whether no rule of the list is broken at the thing
 pub record ClearAt (sections : Sections) (file kept : List ℕ) (at : At) (rs : List Rule) (r : Bool) : Type 0 where
   pub says : (w : What) → ThingIs file at.thing w
-      → r ≡ clear_of (known_in sections file) (here_in file kept at.scope) rs (before_at file kept at) w
-
--- 4. THE ITEMS OF A BODY
-
--- the same place at another item of the body, with the gathers in the set up to another one
-abbrev pub at_item : At → ℕ → Thing → ℕ → At
-at_item at gathers thing number = record {
-  scope = at.scope;
-  rests = record { labels = at.rests.labels; temps = at.rests.temps; own = at.rests.own; gathers = gathers };
-  thing = thing;
-  number = number;
-}
-
--- all that a look may ask is ready, and no gather is in the body's set
-pub record LookReady (file kept knot body : List ℕ) (at : At) : Type 0 where
-  pub scope_ready : ScopeReady file kept at.scope
-  pub knot_set : KnotSet file kept at.scope at.rests knot
-  pub body_set : BodySet file kept at.scope at.rests 0 body
+      → r ≡ clear_of (known_in sections file) (here_in file kept at.site.scope) rs (before_at file kept at) w

@@ -1,16 +1,17 @@
 -- Inner contract. The root, a flow and a stitch, as the code has them while steps run there, and what holds of them. Assumes nothing.
-use Rattle.std.specs.Prelude.{ℕ, ◌≤◌, ◌<◌, ◌≡◌, Bool, true, false, ◌||◌, List, map, length}
+use Rattle.std.specs.Prelude.{ℕ, ◌≤◌, ◌<◌, ◌≡◌, false, ◌||◌, List, map, length}
 use Rattle.names.specs.Words.{Bytes, any}
 use Rattle.records.specs.Trace.{well, ends}
 use Rattle.story.specs.declared.Sections.{Sections}
 use Rattle.story.specs.Story.{Stitch, Flow}
-use Rattle.story.specs.Flows.{part, stitches, flows, flows_in}
+use Rattle.story.specs.Flows.{part, flows, flows_in}
 use Rattle.story.specs.Plain.{flow_without_plain}
 use Rattle.searches.specs.declared.views.FlowView.{FlowView}
 use Rattle.searches.specs.declared.views.StitchView.{StitchView}
 use Rattle.items.specs.Bodies.{kept_in, kept_stitches, StitchesKept, FlowsKept}
 use Rattle.items.specs.Runs.{number_before}
 use Rattle.items.specs.Search.{label_in}
+use Rattle.items.specs.Stitches.{has_stitches, StitchesReady}
 use Rattle.symbols.specs.Numbers.{absent}
 use Rattle.broken.specs.declared.Scope.{Scope}
 
@@ -30,10 +31,6 @@ root_scope file c kept = record {
   end = number_before c.flows kept;
   stitched = false;
 }
-
--- the flow has stitches
-abbrev pub has_stitches : List ℕ → ℕ → ℕ → Bool
-has_stitches file at end = any (λ (t : Stitch). true) (kept_stitches file at end)
 
 -- a flow, which is its own knot
 abbrev pub knot_scope : List ℕ → List ℕ → FlowView → Scope
@@ -66,13 +63,6 @@ stitch_scope kept s w = record {
 }
 
 -- 2. What holds of them
-
--- the stitches from the place on to the end lie within the file and can be read
-pub record StitchesReady (file : List ℕ) (at end : ℕ) : Type 0 where
-  pub ordered : at ≤ end
-  pub within : end ≤ length file
-  pub short : length file ≤ 1048576
-  pub good : ends (stitches (part at end file)) ≡ well
 
 -- the flow's parts lie within the file, its body ends where its stitches begin, they can be read, and the kept numbers are theirs: those of
 -- the whole flow have the labels of its body and of its stitches

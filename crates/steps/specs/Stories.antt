@@ -1,29 +1,17 @@
 -- Inner contract. What holds while the steps of a stitch, a flow and a story run. Assumes nothing.
 use Rattle.story.specs.declared.Sections.{Sections}
-use Rattle.std.specs.Prelude.{ℕ, ◌≤◌, ◌≡◌, false, List, [], ◌∷◌}
+use Rattle.std.specs.Prelude.{ℕ, ◌≤◌, ◌≡◌, List, [], ◌∷◌}
 use Rattle.items.specs.Bodies.{kept_story, kept_flow}
 use Rattle.items.specs.Runs.{number_before}
 use Rattle.rules.specs.Rules.{knot}
 use Rattle.rules.specs.Steps.{s5, s6, over, param_items, purity_items}
-use Rattle.broken.specs.declared.Scope.{Scope}
-use Rattle.broken.specs.declared.Rests.{Rests}
 use Rattle.broken.specs.Scopes.{KnotSet}
-use Rattle.steps.specs.declared.Tally.{Tally}
-use Rattle.steps.specs.declared.bodies.Course.{Course}
 use Rattle.steps.specs.declared.context.Knot.{Knot}
 use Rattle.steps.specs.declared.context.StitchTurn.{StitchTurn}
 use Rattle.steps.specs.declared.context.FlowTurn.{FlowTurn}
 use Rattle.steps.specs.declared.context.StoryTurn.{StoryTurn}
 use Rattle.steps.specs.Heard.{Heard, hear_runs}
 use Rattle.steps.specs.Scopes.{knot_scope, FlowReady, StitchReady}
-
--- steps along the own list of the flow, after what was heard
-abbrev pub course_of : Knot → Tally → Course
-course_of k tally = record { scope = k.scope; rests = k.rests; inner = false; function = k.flow.function; tally = tally }
-
--- steps along the root
-abbrev pub root_course : Scope → Rests → Tally → Course
-root_course scope rests tally = record { scope = scope; rests = rests; inner = false; function = false; tally = tally }
 
 -- what is heard after steps 5 and 6 of the flow
 abbrev pub first_heard : Sections → List ℕ → List ℕ → Knot → Heard → Heard
@@ -35,10 +23,10 @@ first_heard sections file kept k h =
 -- the knot's steps can run: its set is filled, and no temp and no gather of a body is in a set yet
 pub record KnotReady (file kept set : List ℕ) (k : Knot) : Type 0 where
   pub flow_ready : FlowReady file kept k.flow
-  pub scope_is : k.scope ≡ knot_scope file kept k.flow
-  pub knot_set : KnotSet file kept k.scope k.rests set
-  pub own : k.rests.own ≡ 0
-  pub gathers : k.rests.gathers ≡ 0
+  pub scope_is : k.site.scope ≡ knot_scope file kept k.flow
+  pub knot_set : KnotSet file kept k.site set
+  pub own : k.site.rests.own ≡ 0
+  pub gathers : k.site.rests.gathers ≡ 0
 
 -- the steps of a stitch of a knot that is ready can run
 pub record StitchTurnReady (file kept : List ℕ) (t : StitchTurn) : Type 0 where

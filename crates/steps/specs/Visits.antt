@@ -9,6 +9,8 @@ use Rattle.records.specs.Numbers.{place_in, sort_in, branch_in, leaves_in}
 use Rattle.rules.specs.declared.Rule.{Rule}
 use Rattle.rules.specs.Rules.{broken}
 use Rattle.rules.specs.Steps.{Breach, names_of}
+use Rattle.broken.specs.declared.At.{At}
+use Rattle.broken.specs.declared.Site.{Site}
 use Rattle.broken.specs.declared.Thing.{Thing}
 use Rattle.broken.specs.Scopes.{known_in, here_in, before_at}
 use Rattle.steps.specs.declared.visits.Visit.{Visit}
@@ -29,11 +31,22 @@ BearsName file i = (i.what.kind ≡ choice → ⊥) → i.what.name ≡ name_at 
 abbrev pub thing_of : ℕ → Thing
 thing_of x = record { sort = sort_in x; name = place_in x + (5 + name_start (sort_in x)); branch = branch_in x; leaves = leaves_in x }
 
+-- the site with the gathers in the set up to the item of this number
+abbrev pub site_at : Site → ℕ → Site
+site_at s gathers = record {
+  scope = s.scope;
+  rests = record { labels = s.rests.labels; temps = s.rests.temps; own = s.rests.own; gathers = gathers };
+}
+
+-- the thing there, before which so many items stand
+abbrev pub at_item : Site → ℕ → Thing → ℕ → At
+at_item s gathers thing number = record { site = site_at s gathers; thing = thing; number = number }
+
 -- the breaches at what is visited, by the rules
 abbrev pub found : Sections → List ℕ → List ℕ → Visit → List Rule → What → List Breach
 found sections file kept v rs w =
     each
     (λ (r : Rule). only
-    (broken (known_in sections file) (here_in file kept v.at.scope) (before_at file kept v.at) r w)
-    (breach_of v.tally.instance r v.place (names_of r v.at.scope.flow v.named)))
+    (broken (known_in sections file) (here_in file kept v.at.site.scope) (before_at file kept v.at) r w)
+    (breach_of v.tally.instance r v.place (names_of r v.at.site.scope.flow v.named)))
     rs

@@ -10,27 +10,38 @@ ghost use Rattle.steps.specs.Clear.{clear_along, among};
 ghost use Rattle.steps.specs.Looks.{look_rules};
 ghost use Rattle.steps.specs.Turns.{ScopeIs};
 ghost use Rattle.steps.specs.Brackets.{step_of, gathers_last};
-ghost use Rattle.steps.specs.Courses.{turn_at, look_at, CourseReady};
+ghost use Rattle.steps.specs.Courses.{own_course, CourseReady};
 
+use crate::Tally;
 use crate::brackets::Step;
 use crate::fillings::put_body;
 use crate::looks::{Look, is_body_clear};
 use crate::nodes::{Turn, validate_nodes};
-use crate::{Tally, is_full, pass_runs};
+use broken::Site;
 use broken::asked::Story;
-use broken::{At, Rests, Scope, Thing};
-use records::sorts::Sort;
 use sets::members::NamedItems;
 
-// Where steps along a body run: the scope, the numbers of the items from which on the names are in no set, whether the body is a stitch's and
-// whether it is a function's own list, and what was heard before.
+// Where steps along a body run: the site, whether the body is a stitch's and whether it is a function's own list, and what was heard before.
 #[derive(Clone, Copy)]
 pub struct Course {
-    pub scope: Scope,
-    pub rests: Rests,
+    pub site: Site,
     pub inner: bool,
     pub function: bool,
     pub tally: Tally,
+}
+
+impl Course {
+    // Steps along the root or the own list of a flow, after what was heard.
+    pub fn own(site: Site, function: bool, tally: Tally) -> Course
+        ensures { result ≡ own_course site function tally }
+    {
+        Course {
+            site,
+            inner: false,
+            function,
+            tally,
+        }
+    }
 }
 
 // A body with the steps along it, of a story at hand, and the set of its knot: all that the steps may ask is ready but for the body's set, and
@@ -45,19 +56,6 @@ pub struct Body<'a, 'b> {
     pub ghost gathers_last: { gathers_last (map step_of steps.now) ≡ true },
 }
 
-// A step of the course, with these rests and what was heard before it.
-fn turn_at(c: Course, rests: Rests, step: Step, tally: Tally) -> Turn
-    ensures { result ≡ turn_at c rests step tally }
-{
-    let scope = c.scope;
-    Turn {
-        scope,
-        rests,
-        step,
-        tally,
-    }
-}
-
 // Of so many slots, those that so many items need.
 pub fn room(slots: usize, items: usize) -> usize
     ensures { result ≤ slots }
@@ -68,43 +66,21 @@ pub fn room(slots: usize, items: usize) -> usize
     slots
 }
 
-// The start of a look at the course's body; the thing and the number mean nothing.
-fn look_at(c: Course, rests: Rests) -> At
-    ensures { result ≡ look_at c rests }
-{
-    let scope = c.scope;
-    let thing = Thing {
-        sort: Sort::Plain,
-        name: 0,
-        branch: false,
-        leaves: false,
-    };
-    At {
-        scope,
-        rests,
-        thing,
-        number: 0,
-    }
-}
-
 impl Body<'_, '_> {
     // THE STEPS along the body's items, one after the other, until it is full. A step on gathers is the last, so the body's set is filled once.
     pub fn validate_steps(&self, body: &mut [u32], list: &mut [u32]) -> Tally
-        ensures { (s : rules.Scope) → ScopeIs self.now.story.now.file.now self.now.story.now.kept.now self.now.story.now.view.sections self.now.course.scope s → heard result list.new ≡ hear_runs (kept_story self.now.story.now.view.sections self.now.story.now.file.now) (heard self.now.course.tally list.old) (over s (items_at self.now.story.now.file.now (body_run self.now.story.now.kept.now self.now.course.scope)) (map step_of self.now.steps.now)) }
+        ensures { (s : rules.Scope) → ScopeIs self.now.story.now.file.now self.now.story.now.kept.now self.now.story.now.view.sections self.now.course.site.scope s → heard result list.new ≡ hear_runs (kept_story self.now.story.now.view.sections self.now.story.now.file.now) (heard self.now.course.tally list.old) (over s (items_at self.now.story.now.file.now (body_run self.now.story.now.kept.now self.now.course.site.scope)) (map step_of self.now.steps.now)) }
     {
         let story = self.story;
         let c = self.course;
-        let kept = NamedItems {
-            file: story.file,
-            items: story.kept,
-        };
-        let rests = put_body(kept, c.scope, c.rests, c.inner, body);
+        let rests = put_body(story.items(), c.site, c.inner, body);
+        let site = Site { rests, ..c.site };
         let mut tally = c.tally;
         for &step in self.steps {
-            if is_full(tally) {
+            if tally.is_full() {
                 return tally;
             }
-            let turn = turn_at(c, rests, step, tally);
+            let turn = Turn { site, step, tally };
             tally = validate_nodes(story, self.knot, body, list, turn);
         }
         tally
@@ -112,28 +88,24 @@ impl Body<'_, '_> {
 
     // Fills the body's set, and looks once at its items: no rule of the look is broken at any of them.
     fn is_clear_in(&self, body: &mut [u32]) -> bool
-        ensures { result ≡ clear_along (known_in self.now.story.now.view.sections self.now.story.now.file.now) (here_in self.now.story.now.file.now self.now.story.now.kept.now self.now.course.scope) (look_rules self.now.course.inner self.now.course.function) [] (items_at self.now.story.now.file.now (body_run self.now.story.now.kept.now self.now.course.scope)) }
+        ensures { result ≡ clear_along (known_in self.now.story.now.view.sections self.now.story.now.file.now) (here_in self.now.story.now.file.now self.now.story.now.kept.now self.now.course.site.scope) (look_rules self.now.course.inner self.now.course.function) [] (items_at self.now.story.now.file.now (body_run self.now.story.now.kept.now self.now.course.site.scope)) }
     {
         let story = self.story;
         let c = self.course;
-        let kept = NamedItems {
-            file: story.file,
-            items: story.kept,
-        };
-        let rests = put_body(kept, c.scope, c.rests, c.inner, body);
-        let at = look_at(c, rests);
+        let rests = put_body(story.items(), c.site, c.inner, body);
+        let site = Site { rests, ..c.site };
         let look = Look {
             inner: c.inner,
             function: c.function,
         };
-        is_body_clear(look, story, self.knot, body, at)
+        is_body_clear(look, story, self.knot, body, site)
     }
 
     // No rule of the look is broken at any item of the body. Only as many slots of the body's set are used as its items need.
     pub fn is_clear(&self, body: &mut [u32]) -> bool
-        ensures { result ≡ clear_along (known_in self.now.story.now.view.sections self.now.story.now.file.now) (here_in self.now.story.now.file.now self.now.story.now.kept.now self.now.course.scope) (look_rules self.now.course.inner self.now.course.function) [] (items_at self.now.story.now.file.now (body_run self.now.story.now.kept.now self.now.course.scope)) }
+        ensures { result ≡ clear_along (known_in self.now.story.now.view.sections self.now.story.now.file.now) (here_in self.now.story.now.file.now self.now.story.now.kept.now self.now.course.site.scope) (look_rules self.now.course.inner self.now.course.function) [] (items_at self.now.story.now.file.now (body_run self.now.story.now.kept.now self.now.course.site.scope)) }
     {
-        let scope = self.course.scope;
+        let scope = self.course.site.scope;
         let slots = room(body.len(), scope.last - scope.first);
         self.is_clear_in(&mut body[..slots])
     }
@@ -141,10 +113,10 @@ impl Body<'_, '_> {
     // THE STEPS along the body's items, those that find nothing by one look, which tests all their rules.
     pub fn validate(&self, body: &mut [u32], list: &mut [u32]) -> Tally
         requires { among (each bracket (map step_of self.now.steps.now)) (look_rules self.now.course.inner self.now.course.function) ≡ true }
-        ensures { (s : rules.Scope) → ScopeIs self.now.story.now.file.now self.now.story.now.kept.now self.now.story.now.view.sections self.now.course.scope s → heard result list.new ≡ hear_runs (kept_story self.now.story.now.view.sections self.now.story.now.file.now) (heard self.now.course.tally list.old) (over s (items_at self.now.story.now.file.now (body_run self.now.story.now.kept.now self.now.course.scope)) (map step_of self.now.steps.now)) }
+        ensures { (s : rules.Scope) → ScopeIs self.now.story.now.file.now self.now.story.now.kept.now self.now.story.now.view.sections self.now.course.site.scope s → heard result list.new ≡ hear_runs (kept_story self.now.story.now.view.sections self.now.story.now.file.now) (heard self.now.course.tally list.old) (over s (items_at self.now.story.now.file.now (body_run self.now.story.now.kept.now self.now.course.site.scope)) (map step_of self.now.steps.now)) }
     {
         if self.is_clear(body) {
-            return pass_runs(self.course.tally, self.steps.len());
+            return self.course.tally.pass_runs(self.steps.len());
         }
         self.validate_steps(body, list)
     }

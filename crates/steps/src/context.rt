@@ -5,8 +5,9 @@ ghost use Rattle.names.specs.Words.{each};
 ghost use Rattle.items.specs.Bodies.{kept_story, kept_stitch, kept_flow, rising_prop};
 ghost use Rattle.rules.specs.Steps.{stitch_runs, flow_runs, runs};
 ghost use Rattle.steps.specs.Heard.{heard, hear_runs};
-ghost use Rattle.steps.specs.Stories.{course_of, root_course, first_heard, KnotReady, StitchTurnReady, FlowTurnReady, StoryTurnReady};
+ghost use Rattle.steps.specs.Stories.{first_heard, KnotReady, StitchTurnReady, FlowTurnReady, StoryTurnReady};
 
+use crate::Tally;
 use crate::bodies::{Body, Course, room};
 use crate::brackets::Along;
 use crate::fillings::put_knot;
@@ -14,20 +15,18 @@ use crate::headings::{
     Heading, validate_flow_parameter_names, validate_function_purity, validate_stitch_name,
 };
 use crate::scopes::{index_from, knot_scope, root_scope, stitch_scope};
-use crate::{Tally, is_full, pass_runs};
 use broken::asked::Story;
-use broken::{Rests, Scope};
+use broken::{Rests, Site};
 use items::runs::KeptNumbers;
 use searches::views::{FlowView, StitchView, flow_view, stitch_view};
 use sets::members::NamedItems;
 use story::FileView;
 
-// A knot: the flow, where its steps run, and the numbers of the items from which on the names are in no set.
+// A knot: the flow, and the site of its steps.
 #[derive(Clone, Copy)]
 pub struct Knot {
     pub flow: FlowView,
-    pub scope: Scope,
-    pub rests: Rests,
+    pub site: Site,
 }
 
 // A stitch, the number of a kept item before its own, and what was heard before.
@@ -55,22 +54,23 @@ impl FilledKnot<'_, '_> {
     {
         let story = self.story;
         let knot = self.set;
-        let rests = self.knot.rests;
         let kept = KeptNumbers {
             numbers: story.kept,
         };
-        let scope = stitch_scope(kept, self.knot.scope, t.stitch, t.start);
-        let heading = Heading {
+        let scope = stitch_scope(kept, self.knot.site.scope, t.stitch, t.start);
+        let site = Site {
             scope,
-            rests,
+            ..self.knot.site
+        };
+        let heading = Heading {
+            site,
             at: t.stitch.name,
             function: false,
             tally: t.tally,
         };
         let first = validate_stitch_name(story, knot, &knot[..0], list, heading);
         let course = Course {
-            scope,
-            rests,
+            site,
             inner: true,
             function: false,
             tally: first,
@@ -95,9 +95,9 @@ impl FilledKnot<'_, '_> {
             numbers: story.kept,
         };
         let mut at = k.flow.stitches;
-        let mut start = k.scope.own;
+        let mut start = k.site.scope.own;
         while let Some(w) = stitch_view(story.file, at, k.flow.end) {
-            if is_full(tally) {
+            if tally.is_full() {
                 return tally;
             }
             let t = StitchTurn {
@@ -118,12 +118,9 @@ impl FilledKnot<'_, '_> {
     {
         let story = self.story;
         let knot = self.set;
-        let scope = self.knot.scope;
-        let rests = self.knot.rests;
-        let flow = self.knot.flow;
+        let Knot { flow, site } = self.knot;
         let heading = Heading {
-            scope,
-            rests,
+            site,
             at: flow.at,
             function: flow.function,
             tally,
@@ -136,45 +133,32 @@ impl FilledKnot<'_, '_> {
         validate_flow_parameter_names(story, knot, &knot[..0], list, params)
     }
 
-    // Steps along the own list of its flow, after what was heard.
-    fn course(&self, tally: Tally) -> Course
-        ensures { result ≡ course_of self.now.knot tally }
-    {
-        let scope = self.knot.scope;
-        let rests = self.knot.rests;
-        Course {
-            scope,
-            rests,
-            inner: false,
-            function: self.knot.flow.function,
-            tally,
-        }
-    }
-
     // Steps 5 to 19, of its flow: where one look finds its own list clear, its steps are passed.
     fn validate(&self, body: &mut [u32], list: &mut [u32], before: Tally) -> Tally
         ensures { heard result list.new ≡ hear_runs (kept_story self.now.story.now.view.sections self.now.story.now.file.now) (heard before list.old) (flow_runs (kept_flow self.now.story.now.file.now self.now.story.now.kept.now self.now.knot.flow)) }
     {
         let story = self.story;
         let knot = self.set;
+        let site = self.knot.site;
+        let function = self.knot.flow.function;
         let first = self.validate_first_steps(body, list, before);
         let own = Body {
             story,
             knot,
-            course: self.course(first),
+            course: Course::own(site, function, first),
             steps: Along::Flow.steps(),
         };
         if own.is_clear(body) {
-            let passed = pass_runs(first, Along::Flow.many());
+            let passed = first.pass_runs(Along::Flow.many());
             let tally = self.validate_stitches(body, list, passed);
-            return pass_runs(tally, Along::FlowGathers.many());
+            return tally.pass_runs(Along::FlowGathers.many());
         }
         let after = own.validate_steps(body, list);
         let tally = self.validate_stitches(body, list, after);
         let gathers = Body {
             story,
             knot,
-            course: self.course(tally),
+            course: Course::own(site, function, tally),
             steps: Along::FlowGathers.steps(),
         };
         gathers.validate_steps(body, list)
@@ -202,15 +186,14 @@ fn validate_flow(
 {
     let flow = t.flow;
     let scope = knot_scope(story.file, story.kept, flow, t.start);
-    let kept = NamedItems {
-        file: story.file,
-        items: story.kept,
-    };
-    let rests = put_knot(kept, scope, knot);
+    let rests = put_knot(story.items(), scope, knot);
     let filled = FilledKnot {
         story,
         set: knot,
-        knot: Knot { flow, scope, rests },
+        knot: Knot {
+            flow,
+            site: Site { scope, rests },
+        },
     };
     filled.validate(body, list, t.tally)
 }
@@ -240,7 +223,7 @@ fn validate_flows(
     let mut at = story.view.sections.flows;
     let mut start = t.start;
     while let Some(flow) = flow_view(story.file, at, story.view.sections.end) {
-        if is_full(tally) {
+        if tally.is_full() {
             return tally;
         }
         // The flow's items have six bytes at least.
@@ -251,19 +234,6 @@ fn validate_flows(
         start = index_from(kept, start, at);
     }
     tally
-}
-
-// Steps along the root, after what was heard.
-fn root_course(scope: Scope, rests: Rests, tally: Tally) -> Course
-    ensures { result ≡ root_course scope rests tally }
-{
-    Course {
-        scope,
-        rests,
-        inner: false,
-        function: false,
-        tally,
-    }
 }
 
 // THE TWENTY STEPS: 1 to 4 at the root, 5 to 19 of each flow, 20 at the root, for which no name of the knot is asked.
@@ -286,15 +256,12 @@ pub fn validate_story(
         numbers: story.kept,
     };
     let scope = root_scope(source, numbers);
-    let kept = NamedItems {
-        file: story.file,
-        items: story.kept,
-    };
-    let rests = put_knot(kept, scope, knot);
+    let rests = put_knot(story.items(), scope, knot);
+    let site = Site { scope, rests };
     let root = Body {
         story,
         knot,
-        course: root_course(scope, rests, tally),
+        course: Course::own(site, false, tally),
         steps: Along::Root.steps(),
     };
     let first = root.validate(body, list);
@@ -303,16 +270,14 @@ pub fn validate_story(
         tally: first,
     };
     let flows = validate_flows(story, knot, body, list, turn);
-    let none = Rests {
-        labels: 0,
-        temps: 0,
-        own: 0,
-        gathers: 0,
+    let bare = Site {
+        rests: Rests::default(),
+        ..site
     };
     let gathers = Body {
         story,
         knot: &story.names[..0],
-        course: root_course(scope, none, flows),
+        course: Course::own(bare, false, flows),
         steps: Along::RootGathers.steps(),
     };
     gathers.validate(body, list)

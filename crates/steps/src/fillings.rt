@@ -2,7 +2,7 @@
 ghost use Rattle.broken.specs.Scopes.{ScopeReady};
 ghost use Rattle.steps.specs.Fillings.{KnotPut, BodyPut};
 
-use broken::{Rests, Scope};
+use broken::{Rests, Scope, Site};
 use items::named::Sought;
 use sets::members::NamedItems;
 use sets::{Class, clear};
@@ -26,23 +26,23 @@ pub fn put_knot(kept: NamedItems<'_>, s: Scope, knot: &mut [u32]) -> Rests
 }
 
 // Clears the body's set, and puts the body's temps where they are asked for, as those of a stitch are. The rests of the knot stay.
-pub fn put_body(kept: NamedItems<'_>, s: Scope, n: Rests, inner: bool, body: &mut [u32]) -> Rests
-    requires { ScopeReady kept.file.now kept.items.now s }
-    ensures { BodyPut kept.entry.file.now kept.entry.items.now s n result body.new }
+pub fn put_body(kept: NamedItems<'_>, s: Site, inner: bool, body: &mut [u32]) -> Rests
+    requires { ScopeReady kept.file.now kept.items.now s.scope }
+    ensures { BodyPut kept.entry.file.now kept.entry.items.now s result body.new }
 {
     clear(body);
     if inner {
-        let items = kept.between(s.first, s.last);
+        let items = kept.between(s.scope.first, s.scope.last);
         let own = items.put_items(Sought::Temp, Class::Temp, body);
         return Rests {
             own,
             gathers: 0,
-            ..n
+            ..s.rests
         };
     }
     Rests {
         own: 0,
         gathers: 0,
-        ..n
+        ..s.rests
     }
 }

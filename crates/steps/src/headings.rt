@@ -6,24 +6,25 @@ ghost use Rattle.story.specs.Flows.{counted_in};
 ghost use Rattle.items.specs.Bodies.{kept_story};
 ghost use Rattle.rules.specs.Rules as rules;
 ghost use Rattle.rules.specs.Steps.{s5, s6, s12, over, name_item, param_items, purity_items};
+ghost use Rattle.broken.specs.Scopes.{Ready};
 ghost use Rattle.steps.specs.Heard.{heard, hear_runs};
-ghost use Rattle.steps.specs.Turns.{ScopeIs, TurnReady};
-ghost use Rattle.steps.specs.Headings.{named, turn_of, name_visit, HeadingReady, NameHeard, FlowIs};
+ghost use Rattle.steps.specs.Turns.{ScopeIs};
+ghost use Rattle.steps.specs.Headings.{named, name_visit, NameHeard, FlowIs};
 
+use crate::Tally;
 use crate::brackets::Step;
 use crate::nodes::{Turn, validate_nodes};
 use crate::visits::{Visit, visit_thing};
-use crate::{Tally, is_full, next_run};
 use broken::asked::Story;
-use broken::{At, Rests, Scope, Thing};
+use broken::{At, Site, Thing};
 use records::sorts::Sort;
+use searches::name_views::counted;
 
-// A heading: where the steps on it run, the numbers of the items from which on the names are in no set, the place of the stitch's name or
-// of the flow's first byte, whether the flow is a function, and what was heard before.
+// A heading: the site of the steps on it, the place of the stitch's name or of the flow's first byte, whether the flow is a function, and what
+// was heard before.
 #[derive(Clone, Copy)]
 pub struct Heading {
-    pub scope: Scope,
-    pub rests: Rests,
+    pub site: Site,
     pub at: usize,
     pub function: bool,
     pub tally: Tally,
@@ -38,28 +39,11 @@ pub struct NameVisit {
     pub named: usize,
 }
 
-// A step on the heading, after what was heard so far.
-fn turn_of(h: Heading, step: Step, tally: Tally) -> Turn
-    ensures { result ≡ turn_of h step tally }
-{
-    let scope = h.scope;
-    let rests = h.rests;
-    Turn {
-        scope,
-        rests,
-        step,
-        tally,
-    }
-}
-
 // The visit of a name, before which no item stands.
 fn name_visit(v: NameVisit) -> Visit
     ensures { result ≡ name_visit v }
 {
     let turn = v.turn;
-    let scope = turn.scope;
-    let rests = turn.rests;
-    let tally = turn.tally;
     let thing = Thing {
         sort: v.sort,
         name: v.named,
@@ -67,8 +51,7 @@ fn name_visit(v: NameVisit) -> Visit
         leaves: false,
     };
     let at = At {
-        scope,
-        rests,
+        site: turn.site,
         thing,
         number: 0,
     };
@@ -76,7 +59,7 @@ fn name_visit(v: NameVisit) -> Visit
         at,
         place: v.place,
         named: v.named,
-        tally,
+        tally: turn.tally,
     }
 }
 
@@ -88,7 +71,7 @@ fn visit_name(
     list: &mut [u32],
     v: NameVisit,
 ) -> Tally
-    requires { TurnReady story.now.file.now story.now.kept.now knot.now body.now v.turn }
+    requires { Ready story.now.file.now story.now.kept.now knot.now body.now v.turn.site 0 }
     ensures { NameHeard story.now.view.sections story.now.file.now story.now.kept.now list.old v result list.new }
 {
     let turn = v.turn;
@@ -105,18 +88,21 @@ pub fn validate_stitch_name(
     list: &mut [u32],
     h: Heading,
 ) -> Tally
-    requires { HeadingReady story.now.file.now story.now.kept.now knot.now body.now h }
-    ensures { (s : rules.Scope) → ScopeIs story.now.file.now story.now.kept.now story.now.view.sections h.scope s → heard result list.new ≡ hear_runs (kept_story story.now.view.sections story.now.file.now) (heard h.tally list.old) (over s (name_item stitch_name h.at (named story.now.file.now h.at) ∷ []) (s12 ∷ [])) }
+    requires { Ready story.now.file.now story.now.kept.now knot.now body.now h.site 0 }
+    ensures { (s : rules.Scope) → ScopeIs story.now.file.now story.now.kept.now story.now.view.sections h.site.scope s → heard result list.new ≡ hear_runs (kept_story story.now.view.sections story.now.file.now) (heard h.tally list.old) (over s (name_item stitch_name h.at (named story.now.file.now h.at) ∷ []) (s12 ∷ [])) }
 {
-    let tally = h.tally;
-    let turn = turn_of(h, Step::StitchName, tally);
+    let turn = Turn {
+        site: h.site,
+        step: Step::StitchName,
+        tally: h.tally,
+    };
     let v = NameVisit {
         turn,
         sort: Sort::StitchName,
         place: h.at,
         named: h.at,
     };
-    next_run(visit_name(story, knot, body, list, v))
+    visit_name(story, knot, body, list, v).next_run()
 }
 
 // STEP 6: the names that the count byte of the parameters counts.
@@ -127,32 +113,29 @@ pub fn validate_flow_parameter_names(
     list: &mut [u32],
     h: Heading,
 ) -> Tally
-    requires heading_ready { HeadingReady story.now.file.now story.now.kept.now knot.now body.now h }
-    requires params_in_bounds { h.scope.params < length story.now.file.now }
-    ensures { (s : rules.Scope) → ScopeIs story.now.file.now story.now.kept.now story.now.view.sections h.scope s → heard result list.new ≡ hear_runs (kept_story story.now.view.sections story.now.file.now) (heard h.tally list.old) (over s (param_items (counted_in h.scope.params (drop h.scope.params story.now.file.now))) (s6 ∷ [])) }
+    requires heading_ready { Ready story.now.file.now story.now.kept.now knot.now body.now h.site 0 }
+    requires params_in_bounds { h.site.scope.params < length story.now.file.now }
+    ensures { (s : rules.Scope) → ScopeIs story.now.file.now story.now.kept.now story.now.view.sections h.site.scope s → heard result list.new ≡ hear_runs (kept_story story.now.view.sections story.now.file.now) (heard h.tally list.old) (over s (param_items (counted_in h.site.scope.params (drop h.site.scope.params story.now.file.now))) (s6 ∷ [])) }
 {
-    let file = story.file;
-    let params = h.scope.params;
     let mut tally = h.tally;
-    let mut at = params + 1;
-    for _ in 0..file[params] {
-        if is_full(tally) {
+    for name in counted(story.file, h.site.scope.params) {
+        if tally.is_full() {
             return tally;
         }
-        if file.len() <= at {
-            return next_run(tally);
-        }
-        let turn = turn_of(h, Step::Parameters, tally);
+        let turn = Turn {
+            site: h.site,
+            step: Step::Parameters,
+            tally,
+        };
         let v = NameVisit {
             turn,
             sort: Sort::Parameter,
-            place: at,
-            named: at,
+            place: name.at,
+            named: name.at,
         };
         tally = visit_name(story, knot, body, list, v);
-        at += 1 + file[at] as usize;
     }
-    next_run(tally)
+    tally.next_run()
 }
 
 // STEP 5: of a function its first byte, then its own list; of another flow nothing.
@@ -163,14 +146,18 @@ pub fn validate_function_purity(
     list: &mut [u32],
     h: Heading,
 ) -> Tally
-    requires { HeadingReady story.now.file.now story.now.kept.now knot.now body.old h }
-    ensures list_after { (s : rules.Scope) (f : Flow) → ScopeIs story.now.file.now story.now.kept.now story.now.view.sections h.scope s → FlowIs story.now.file.now story.now.kept.now h f → heard result list.new ≡ hear_runs (kept_story story.now.view.sections story.now.file.now) (heard h.tally list.old) (over s (purity_items h.function f) (s5 ∷ [])) }
+    requires { Ready story.now.file.now story.now.kept.now knot.now body.old h.site 0 }
+    ensures list_after { (s : rules.Scope) (f : Flow) → ScopeIs story.now.file.now story.now.kept.now story.now.view.sections h.site.scope s → FlowIs story.now.file.now story.now.kept.now h f → heard result list.new ≡ hear_runs (kept_story story.now.view.sections story.now.file.now) (heard h.tally list.old) (over s (purity_items h.function f) (s5 ∷ [])) }
     ensures body_unchanged { body.new ≡ body.old }
 {
     let tally = h.tally;
     if h.function {
-        let first = turn_of(h, Step::Purity, tally);
-        let flow = h.scope.flow;
+        let first = Turn {
+            site: h.site,
+            step: Step::Purity,
+            tally,
+        };
+        let flow = h.site.scope.flow;
         let v = NameVisit {
             turn: first,
             sort: Sort::FlowStart,
@@ -178,8 +165,11 @@ pub fn validate_function_purity(
             named: flow,
         };
         let after = visit_name(story, knot, body, list, v);
-        let turn = turn_of(h, Step::Purity, after);
+        let turn = Turn {
+            tally: after,
+            ..first
+        };
         return validate_nodes(story, knot, body, list, turn);
     }
-    next_run(tally)
+    tally.next_run()
 }

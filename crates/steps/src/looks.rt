@@ -1,13 +1,13 @@
 // One look at a body, in front of its runs: whether no rule is broken at any of its items.
 ghost use Rattle.std.specs.Prelude.{◌≡◌, []};
 ghost use Rattle.items.specs.Bodies.{items_at};
-ghost use Rattle.broken.specs.Scopes.{known_in, here_in, body_run};
+ghost use Rattle.broken.specs.Scopes.{known_in, here_in, body_run, Ready};
 ghost use Rattle.steps.specs.Clear.{clear_along};
-ghost use Rattle.steps.specs.Looks.{look_rules, look_table, ClearAt, at_item, LookReady};
+ghost use Rattle.steps.specs.Looks.{look_rules, look_table, ClearAt};
 
-use crate::visits::thing_of;
+use crate::visits::{at_item, thing_of};
+use broken::Site;
 use broken::asked::{Asked, Story};
-use broken::{At, Rests, Thing};
 use items::named::Sought;
 use records::sorts::Sort;
 use rules::Rule;
@@ -92,31 +92,19 @@ fn is_item_clear(look: Look, asked: &Asked<'_, '_>) -> bool
     breaks_none(asked, rules_at(look, asked.at.thing.sort))
 }
 
-// The same place at item number `number` of the body, which is the thing, with the gathers in the set up to `gathers`.
-fn at_item(at: At, gathers: usize, thing: Thing, number: usize) -> At
-    ensures { result ≡ at_item at gathers thing number }
+// ONE LOOK: no rule of the look is broken at any item of the body. Each gather is put into the body's set after its look.
+pub fn is_body_clear(
+    look: Look,
+    story: &Story<'_>,
+    knot: &[u32],
+    body: &mut [u32],
+    site: Site,
+) -> bool
+    requires { Ready story.now.file.now story.now.kept.now knot.now body.old site 0 }
+    ensures { result ≡ clear_along (known_in story.now.view.sections story.now.file.now) (here_in story.now.file.now story.now.kept.now site.scope) (look_rules look.inner look.function) [] (items_at story.now.file.now (body_run story.now.kept.now site.scope)) }
 {
-    let rests = Rests {
-        gathers,
-        ..at.rests
-    };
-    At {
-        rests,
-        thing,
-        number,
-        ..at
-    }
-}
-
-// ONE LOOK: no rule of the look is broken at any item of the body. Each gather is put into the body's set after its look. The thing, the number
-// and the rest of the gathers on entry mean nothing.
-pub fn is_body_clear(look: Look, story: &Story<'_>, knot: &[u32], body: &mut [u32], at: At) -> bool
-    requires { LookReady story.now.file.now story.now.kept.now knot.now body.old at }
-    ensures { result ≡ clear_along (known_in story.now.view.sections story.now.file.now) (here_in story.now.file.now story.now.kept.now at.scope) (look_rules look.inner look.function) [] (items_at story.now.file.now (body_run story.now.kept.now at.scope)) }
-{
-    let scope = at.scope;
-    let first = scope.first;
-    let last = scope.last;
+    let first = site.scope.first;
+    let last = site.scope.last;
     let items = NamedItems {
         file: story.file,
         items: &story.kept[first..last],
@@ -127,7 +115,7 @@ pub fn is_body_clear(look: Look, story: &Story<'_>, knot: &[u32], body: &mut [u3
             story,
             knot,
             body,
-            at: at_item(at, gathers, thing_of(item), i),
+            at: at_item(site, gathers, thing_of(item), i),
         };
         if !is_item_clear(look, &asked) {
             return false;

@@ -4,26 +4,25 @@ ghost use Rattle.items.specs.declared.named.Sought.TheVariants as sought;
 ghost use Rattle.items.specs.Bodies.{kept_story};
 ghost use Rattle.sets.specs.Members.{Members, MembersPut};
 ghost use Rattle.rules.specs.Rules as rules;
+ghost use Rattle.broken.specs.Scopes.{Ready};
 ghost use Rattle.steps.specs.Brackets.{step_of, on_gathers};
 ghost use Rattle.steps.specs.Heard.{heard, hear_runs};
-ghost use Rattle.steps.specs.Turns.{ScopeIs, TurnReady, turn_run, visit_of};
+ghost use Rattle.steps.specs.Turns.{ScopeIs, turn_run, visit_of};
 
+use crate::Tally;
 use crate::brackets::Step;
-use crate::visits::{Visit, thing_of, visit_thing};
-use crate::{Tally, is_full, next_run};
+use crate::visits::{Visit, at_item, thing_of, visit_thing};
+use broken::Site;
 use broken::asked::Story;
-use broken::{At, Rests, Scope};
 use items::items::{named_at, place_in};
 use items::named::Sought;
 use sets::Class;
 use sets::members::NamedItems;
 
-// A step along a body: where it runs, the numbers of the items from which on the names are in no set, the step, and what was heard
-// before.
+// A step at its site, and what was heard before.
 #[derive(Clone, Copy)]
 pub struct Turn {
-    pub scope: Scope,
-    pub rests: Rests,
+    pub site: Site,
     pub step: Step,
     pub tally: Tally,
 }
@@ -32,20 +31,8 @@ pub struct Turn {
 fn visit_of(turn: Turn, tally: Tally, gathers: usize, number: usize, item: u32) -> Visit
     ensures { result ≡ visit_of turn tally gathers number item }
 {
-    let scope = turn.scope;
-    let rests = Rests {
-        gathers,
-        ..turn.rests
-    };
-    let thing = thing_of(item);
-    let at = At {
-        scope,
-        rests,
-        thing,
-        number,
-    };
     Visit {
-        at,
+        at: at_item(turn.site, gathers, thing_of(item), number),
         place: place_in(item),
         named: named_at(item),
         tally,
@@ -74,27 +61,26 @@ pub fn validate_nodes(
     list: &mut [u32],
     turn: Turn,
 ) -> Tally
-    requires { TurnReady story.now.file.now story.now.kept.now knot.now body.old turn }
-    ensures list_after { (s : rules.Scope) → ScopeIs story.now.file.now story.now.kept.now story.now.view.sections turn.scope s → heard result list.new ≡ hear_runs (kept_story story.now.view.sections story.now.file.now) (heard turn.tally list.old) (turn_run story.now.file.now story.now.kept.now turn s ∷ []) }
+    requires { Ready story.now.file.now story.now.kept.now knot.now body.old turn.site 0 }
+    ensures list_after { (s : rules.Scope) → ScopeIs story.now.file.now story.now.kept.now story.now.view.sections turn.site.scope s → heard result list.new ≡ hear_runs (kept_story story.now.view.sections story.now.file.now) (heard turn.tally list.old) (turn_run story.now.file.now story.now.kept.now turn s ∷ []) }
     ensures body_unchanged { on_gathers (step_of turn.step) ≡ false → body.new ≡ body.old }
 {
-    let scope = turn.scope;
-    let first = scope.first;
-    let last = scope.last;
+    let first = turn.site.scope.first;
+    let last = turn.site.scope.last;
     let items = NamedItems {
         file: story.file,
         items: &story.kept[first..last],
     };
     let rules = turn.step.rules();
     let mut tally = turn.tally;
-    let mut gathers = turn.rests.gathers;
+    let mut gathers = turn.site.rests.gathers;
     for (i, &item) in items.items.iter().enumerate() {
-        if is_full(tally) {
+        if tally.is_full() {
             return tally;
         }
         let v = visit_of(turn, tally, gathers, i, item);
         tally = visit_thing(story, knot, body, rules, list, v);
         gathers = pass_gather(turn.step, items, i, gathers, body);
     }
-    next_run(tally)
+    tally.next_run()
 }

@@ -1,12 +1,13 @@
 // Where a step runs: at the root, for a flow, or for a stitch of a flow, with the runs of its kept items.
 ghost use Rattle.std.specs.Prelude.{◌≡◌, ◌≤◌, length};
 ghost use Rattle.items.specs.Runs.{number_before};
-ghost use Rattle.steps.specs.Scopes.{root_scope, knot_scope, stitch_scope, has_stitches, StitchesReady, FlowReady};
+ghost use Rattle.steps.specs.Scopes.{root_scope, knot_scope, stitch_scope, FlowReady};
 
-use crate::ABSENT;
 use broken::Scope;
 use items::runs::KeptNumbers;
-use searches::views::{FlowView, StitchView, stitch_view};
+use items::stitches::has_stitches;
+use rules::ABSENT;
+use searches::views::{FlowView, StitchView};
 use story::FileView;
 
 // How many of the numbers have a place before this one, where so many are known to have one.
@@ -18,14 +19,6 @@ pub fn index_from(kept: KeptNumbers<'_>, start: usize, place: usize) -> usize
         numbers: &kept.numbers[start..],
     };
     start + rest.count_before(place)
-}
-
-// The flow has stitches.
-fn has_stitches(file: &[u8], at: usize, end: usize) -> bool
-    requires { StitchesReady file.now at end }
-    ensures { result ≡ has_stitches file.now at end }
-{
-    stitch_view(file, at, end).is_some()
 }
 
 // The root, which is its own knot, without name and parameters.
@@ -83,15 +76,11 @@ pub fn stitch_scope(kept: KeptNumbers<'_>, s: Scope, w: StitchView, start: usize
     let first = index_from(kept, start, w.from);
     let last = index_from(kept, first, w.to);
     Scope {
-        flow: s.flow,
         params: w.params,
         marks: w.marks,
         first,
         last,
-        outer: s.outer,
-        knot: s.knot,
-        own: s.own,
-        end: s.end,
         stitched: false,
+        ..s
     }
 }

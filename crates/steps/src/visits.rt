@@ -4,11 +4,11 @@ ghost use Rattle.records.specs.Items.{What};
 ghost use Rattle.records.specs.Numbers.{item_in};
 ghost use Rattle.broken.specs.Scopes.{Ready};
 ghost use Rattle.steps.specs.Heard.{heard, hear_all};
-ghost use Rattle.steps.specs.Visits.{LikeThing, BearsName, thing_of, found};
+ghost use Rattle.steps.specs.Visits.{LikeThing, BearsName, thing_of, at_item, found};
 
-use crate::{Tally, hear};
+use crate::Tally;
 use broken::asked::{Asked, Story};
-use broken::{At, Thing};
+use broken::{At, Rests, Site, Thing};
 use items::items::{choice_has_explicit_divert, in_branch, named_at, sort_in};
 use rules::Rule;
 
@@ -34,6 +34,21 @@ pub fn thing_of(item: u32) -> Thing
     }
 }
 
+// The thing, which is item number `number` of the body, at the site with the gathers in the set up to `gathers`.
+pub fn at_item(site: Site, gathers: usize, thing: Thing, number: usize) -> At
+    ensures { result ≡ at_item site gathers thing number }
+{
+    let rests = Rests {
+        gathers,
+        ..site.rests
+    };
+    At {
+        site: Site { rests, ..site },
+        thing,
+        number,
+    }
+}
+
 // THE VISIT: hears each of the rules that is broken at the thing, in order.
 pub fn visit_thing(
     story: &Story<'_>,
@@ -43,7 +58,7 @@ pub fn visit_thing(
     list: &mut [u32],
     v: Visit,
 ) -> Tally
-    requires { Ready story.now.file.now story.now.kept.now knot.now body.now v.at }
+    requires { Ready story.now.file.now story.now.kept.now knot.now body.now v.at.site v.at.number }
     ensures { (w : What) → LikeThing story.now.file.now v.at.thing w → heard result list.new ≡ hear_all (heard v.tally list.old) (found story.now.view.sections story.now.file.now story.now.kept.now v rules.now w) }
 {
     let at = v.at;
@@ -56,7 +71,7 @@ pub fn visit_thing(
     let mut tally = v.tally;
     for &rule in rules {
         if asked.is_broken(rule) {
-            tally = hear(tally, rule, v.place, at.scope.flow, v.named, list);
+            tally = tally.hear(rule, v.place, at.site.scope.flow, v.named, list);
         }
     }
     tally

@@ -12,8 +12,7 @@ fn names_reach(s: &[u8], many: u8, at: usize) -> Result<usize, Refusal>
 {
     let mut e = at;
     for _ in 0..many {
-        let to = read_name(&s[e..])?;
-        e = e + to;
+        e += read_name(&s[e..])?;
     }
     Ok(e)
 }

@@ -15,32 +15,21 @@ fn start_at(file: &[u8], offset: usize) -> usize
 }
 
 // The last four bytes are the mark.
+#[tactic(auto, unfolding(crate::specs::File::marked))]
 fn is_marked(file: &[u8]) -> bool
     requires { 20 ≤ length file.now }
     ensures { result ≡ marked file.now }
 {
-    let n = file.len();
-    if file[n - 4] != 73 {
-        return false;
-    }
-    if file[n - 3] != 75 {
-        return false;
-    }
-    if file[n - 2] != 1 {
-        return false;
-    }
-    file[n - 1] == 0
+    file.ends_with(b"IK\x01\x00")
 }
 
 // The sections by the trailer: refusals 1, 2 and 3.
+#[tactic(auto, unfolding(crate::specs::File::opened_of))]
 pub fn read_trailer(file: &[u8]) -> Result<Sections, Refusal>
     ensures { result ≡ opened_of file.now }
 {
     let n = file.len();
-    if n < 20 {
-        return Err(Refusal::Length);
-    }
-    if 1048576 < n {
+    if n < 20 || 1048576 < n {
         return Err(Refusal::Length);
     }
     if !is_marked(file) {
@@ -51,16 +40,7 @@ pub fn read_trailer(file: &[u8]) -> Result<Sections, Refusal>
     let externals = start_at(file, 4);
     let root = start_at(file, 8);
     let flows = start_at(file, 12);
-    if globals != 0 {
-        return Err(Refusal::Starts);
-    }
-    if root < externals {
-        return Err(Refusal::Starts);
-    }
-    if flows < root {
-        return Err(Refusal::Starts);
-    }
-    if end < flows {
+    if globals != 0 || root < externals || flows < root || end < flows {
         return Err(Refusal::Starts);
     }
     Ok(Sections {

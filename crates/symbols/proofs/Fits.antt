@@ -1,8 +1,8 @@
 -- How a target fits a spelling q.p: by what stands before .p in it, or within p. Assumes nothing.
 use mathlib.Core.Path.{◌≡◌, sym, ◌∙◌, ap}
-use mathlib.Core.Bool.{Bool, true, false}
+use mathlib.Core.Bool.{Bool, false}
 use mathlib.Core.List.{[], ◌∷◌, ◌++◌, append_assoc, append_cancel_right}
-use Prim.Native.Nat.{suc, ◌-◌, ◌≤◌, ◌<◌}
+use Prim.Native.Nat.{ℕ, suc, ◌+◌, ◌-◌, ◌≤◌, ◌<◌}
 use native.Mathlib.Omega.{arith}
 use native.Mathlib.Decide.{dec_le}
 use lib.Dec.{T}
@@ -18,24 +18,24 @@ use Rattle.symbols.specs.Fits.{fit_of, answers, end_fit}
 -- 1. An ending with its dot
 
 module _ (s end : Bytes) (h : length end < length s) where
-  -- the byte before the last ones, and these
-  dot_at : ends (46 ∷ end) s ≡ same (46 ∷ end) (get_or s (length s - length end - 1) 0 ∷ drop (length s - length end) s)
+  -- where the dot would stand
+  abbrev dot : ℕ
+  dot = length s - length end - 1
+
+  -- the byte there, and those after it
+  dot_at : ends (46 ∷ end) s ≡ same (46 ∷ end) (get_or s dot 0 ∷ drop (dot + 1) s)
   dot_at =
-      let n = length s - length end - 1 in
-      let m : length s - suc (length end) ≡ n = omega arith in
-      let e : suc n ≡ length s - length end = omega arith in
-      ends_at (46 ∷ end) s (omega arith) ∙ rw (m, drop-cons s n 0 (omega arith), e)
+      let m : length s - suc (length end) ≡ dot = omega arith in
+      let e : suc dot ≡ dot + 1 = omega arith in
+      ends_at (46 ∷ end) s (omega arith) ∙ rw (m, drop-cons s dot 0 (omega arith), e)
 
   -- another byte than the dot
-  pub dot-other : (get_or s (length s - length end - 1) 0 ≡ 46 → ⊥) → false ≡ ends (46 ∷ end) s
-  dot-other d = rw (dot_at, ne_eqb 46 (get_or s (length s - length end - 1) 0) (λ e. d (sym e)))
+  pub dot-other : (get_or s dot 0 ≡ 46 → ⊥) → false ≡ ends (46 ∷ end) s
+  dot-other d = rw (dot_at, ne_eqb 46 (get_or s dot 0) (λ e. d (sym e)))
 
   -- the dot: the last bytes decide
-  pub dot-there : get_or s (length s - length end - 1) 0 ≡ 46 → {r : Bool}
-      → r ≡ same end (take (length s - (length s - length end)) (drop (length s - length end) s)) → r ≡ ends (46 ∷ end) s
-  dot-there d e =
-      e
-      ∙ rw (dot_at, d, take_all (length s - (length s - length end)) (drop (length s - length end) s) (simp length-drop (omega arith)))
+  pub dot-there : get_or s dot 0 ≡ 46 → {r : Bool} → r ≡ same end (take (length s - (dot + 1)) (drop (dot + 1) s)) → r ≡ ends (46 ∷ end) s
+  dot-there d e = e ∙ rw (dot_at, d, take_all (length s - (dot + 1)) (drop (dot + 1) s) (simp length-drop (omega arith)))
 
 -- 2. Words with the same end
 
@@ -55,21 +55,12 @@ ends-both a b x =
 
 module _ (t p : Bytes) (e : T (ends (46 ∷ p) t)) where
   -- it ends in .p, and before that stands
-  before : take (length t - length p - 1) t ++ (46 ∷ p) ≡ t
+  pub before : take (length t - length p - 1) t ++ (46 ∷ p) ≡ t
   before =
       let s = ends-split (46 ∷ p) t e in
       let l : length s.0 ≡ length t - length p - 1 = omega (arith, simp length-append at (ap length s.1)) in
       ap (λ (w : Bytes). take (length t - length p - 1) w ++ (46 ∷ p)) s.1
       ∙ rw (take_at s.0 (46 ∷ p) (length t - length p - 1) l) (sym s.1)
-
-  -- it is longer than p
-  longer : length p < length t
-  longer = let s = ends-split (46 ∷ p) t e in omega (arith, simp length-append at (ap length s.1))
-
-  before-fit : (q : Bytes) → fit_of (take (length t - length p - 1) t) q ≡ fit_of t (q ++ (46 ∷ p))
-  before-fit q =
-      let w = take (length t - length p - 1) t in
-      sym (ap (λ (x : Bytes). fit_of x (q ++ (46 ∷ p))) (sym before) ∙ rw (same-both w q (46 ∷ p), ends-both (46 ∷ w) q (46 ∷ p)))
 
 module _ (t p q : Bytes) (n : T (ends (46 ∷ p) t) → ⊥) where
   -- where it does not end in .p it is not q.p,
@@ -91,16 +82,14 @@ module _ (t p q : Bytes) (n : T (ends (46 ∷ p) t) → ⊥) where
           is_false (ends (46 ∷ t) (q ++ (46 ∷ p))) (long (omega arith))
           ∙ rw (same-lengths t p (λ e. h (omega arith)), ends-short (46 ∷ t) p (omega arith))
 
--- 4. The same, from the test r whether the target ends in .p, and an answer f by what it showed
+-- 4. The same, from what stands in the target before .p, or from the test r whether it ends so, and an answer f by what that showed
 
-module _ (t p : Bytes) {r : Bool} (e : r ≡ ends (46 ∷ p) t) where
-  pub reach-long : r ≡ true → length p < length t
-  reach-long h = longer t p (rw (← e, h) tt)
+module _ (t p q : Bytes) where
+  pub reach-fit : (w : Bytes) → w ++ (46 ∷ p) ≡ t → {f : Fit} → f ≡ fit_of w q → f ≡ fit_of t (q ++ (46 ∷ p))
+  reach-fit w e a =
+      a ∙ sym (ap (λ (x : Bytes). fit_of x (q ++ (46 ∷ p))) (sym e) ∙ rw (same-both w q (46 ∷ p), ends-both (46 ∷ w) q (46 ∷ p)))
 
-  pub reach-fit : (q : Bytes) → r ≡ true → {f : Fit} → f ≡ fit_of (take (length t - length p - 1) t) q → f ≡ fit_of t (q ++ (46 ∷ p))
-  reach-fit q h a = a ∙ before-fit t p (rw (← e, h) tt) q
-
-  pub within-fit : (q : Bytes) → r ≡ false → {f : Fit} → f ≡ end_fit t p → f ≡ fit_of t (q ++ (46 ∷ p))
-  within-fit q h a =
+  pub within-fit : {r : Bool} → r ≡ ends (46 ∷ p) t → r ≡ false → {f : Fit} → f ≡ end_fit t p → f ≡ fit_of t (q ++ (46 ∷ p))
+  within-fit e h a =
       let n : T (ends (46 ∷ p) t) → ⊥ = λ x. rw (← e, h) at x in
       a ∙ rw (not_same t p q n, within t p q n)

@@ -4,6 +4,7 @@ use Rattle.fields.specs.Bytes.{pick}
 use Rattle.names.specs.Words.{Bytes}
 use Rattle.names.specs.Counted.{name_at}
 use Rattle.symbols.specs.declared.Places.{Places}
+use Rattle.symbols.specs.declared.targets.EntryIndex.{EntryIndex}
 use Rattle.symbols.specs.declared.Fit.{Fit}
 use Rattle.symbols.specs.declared.Fit.TheVariants.{Exact, Ending, Differs}
 use Rattle.symbols.specs.Numbers.{absent}
@@ -31,6 +32,10 @@ spelling_in file p = dotted_in file p.flow (dotted_in file p.stitch (name_at fil
 -- the spellings of the first so many entries
 unfoldable pub spellings_in : List ℕ → ℕ → List ℕ → List Bytes
 spellings_in file count index = map (spelling_in file) (take count (rows index))
+
+-- the spellings of the entries of an index
+abbrev pub spellings_of : EntryIndex → List Bytes
+spellings_of index = spellings_in index.file.now index.count index.numbers.now
 
 -- the number of the first that passes, from k on
 unfoldable pub first_of : (Bytes → Bool) → ℕ → List Bytes → Option ℕ

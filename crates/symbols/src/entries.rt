@@ -4,9 +4,10 @@ ghost use Rattle.names.specs.Words.{each};
 ghost use Rattle.names.specs.Counted.{name_at};
 ghost use Rattle.records.specs.Trace.{well, ends};
 ghost use Rattle.story.specs.Plain.{flow_without_plain};
-ghost use Rattle.story.specs.Flows.{names_n, counted_in, part, flows, flows_in, stitches};
+ghost use Rattle.story.specs.Flows.{counted_in, part, flows, flows_in, stitches};
 ghost use Rattle.story.specs.File.{story_in};
 ghost use Rattle.records.specs.Numbers.{item_in};
+ghost use Rattle.searches.specs.NameViews.{names_left};
 ghost use Rattle.items.specs.Bodies.{Range, items_at, kept_stitch, kept_stitches, kept_flow, StitchesKept, FlowsKept};
 ghost use Rattle.std.proofs.Common.{◌∙◌};
 ghost use Rattle.symbols.specs.Storing.{store-none, store-then};
@@ -20,6 +21,7 @@ use items::files::KeptFile;
 use items::items::{is_labelled, named_at};
 use items::runs::KeptNumbers;
 use names::name_at;
+use searches::name_views::{NamesFrom, counted};
 use searches::views::{FlowView, StitchView, flow_view, stitch_view};
 
 // Stores an entry after the n that the index has, where there is room; how many it has now.
@@ -60,35 +62,29 @@ impl<'a> Visit for Store<'a> {
     } };
 }
 
-// Visits at most so many names, from the place on and before the end, each alone.
-fn put_names<V: Visit>(file: &[u8], many: usize, from: usize, end: usize, visitor: &mut V)
-    requires end_in_bounds { (end ≤ length file.now) × (length file.now ≤ 1048576) }
-    requires ready { V.ready visitor.old (names_placed (names_n many from (part from end file.now))) }
-    ensures { V.visited visitor.old (names_placed (names_n many from (part from end file.now))) visitor.new }
+// Visits the names that are left, each alone.
+fn put_names<V: Visit>(names: NamesFrom<'_>, visitor: &mut V)
+    requires short { length names.file.now ≤ 1048576 }
+    requires ready { V.ready visitor.old (names_placed (names_left names)) }
+    ensures { V.visited visitor.old (names_placed (names_left names.entry)) visitor.new }
 {
-    let mut at = from;
-    for _passed in 0..many {
-        if end <= at {
-            return;
-        }
+    for name in names {
         let p = Places {
             flow: ABSENT,
             stitch: ABSENT,
-            own: at as u32,
+            own: name.at as u32,
         };
         visitor.visit(p);
-        at += 1 + file[at] as usize;
     }
 }
 
 // Visits parameters: the names that the count byte at the place counts, each alone.
 fn put_params<V: Visit>(file: &[u8], params: usize, visitor: &mut V)
-    requires params_in_bounds { (params < length file.now) × (length file.now ≤ 1048576) }
+    requires short { length file.now ≤ 1048576 }
     requires ready { V.ready visitor.old (names_placed (counted_in params (drop params file.now))) }
     ensures { V.visited visitor.old (names_placed (counted_in params (drop params file.now))) visitor.new }
 {
-    let many = file[params] as usize;
-    put_names(file, many, params + 1, file.len(), visitor)
+    put_names(counted(file, params), visitor)
 }
 
 // Visits the item, if its name is a label.
@@ -217,16 +213,19 @@ fn put_flows<V: Visit>(file: &[u8], kept: KeptNumbers<'_>, from: usize, end: usi
 
 // Visits THE ENTRIES of a readable file by its kept numbers: globals, labels of the root, flows.
 pub fn visit_entries<V: Visit>(story: &KeptFile<'_>, visitor: &mut V)
-    requires { V.ready visitor.old (placed (entries (story_in story.now.sections story.now.file.now))) }
-    ensures { V.visited visitor.old (placed (entries (story_in story.now.sections story.now.file.now))) visitor.new }
+    requires { V.ready visitor.old (placed (entries (story_in story.now.source.sections story.now.source.file.now))) }
+    ensures { V.visited visitor.old (placed (entries (story_in story.now.source.sections story.now.source.file.now))) visitor.new }
 {
-    let file = story.file;
-    let c = story.sections;
-    let kept = KeptNumbers {
-        numbers: story.kept,
-    };
+    let file = story.source.file;
+    let c = story.source.sections;
+    let kept = story.kept;
     let end = c.externals;
-    put_names(file, end, 0, end, visitor);
+    let globals = NamesFrom {
+        file: &file[..end],
+        at: 0,
+        many: end,
+    };
+    put_names(globals, visitor);
     let own = kept.body_items(c.root, c.flows);
     collect_labels_from_nodes(file, own, ABSENT, ABSENT, visitor);
     put_flows(file, kept, c.flows, c.end, visitor)
@@ -234,7 +233,7 @@ pub fn visit_entries<V: Visit>(story: &KeptFile<'_>, visitor: &mut V)
 
 // Writes the index of a readable file by its kept numbers: globals, labels of the root, flows. The entry count.
 pub fn write_index(story: &KeptFile<'_>, index: &mut [u32]) -> usize
-    ensures { st index.new result ≡ store_all (st index.old 0) (placed (entries (story_in story.now.sections story.now.file.now))) }
+    ensures { st index.new result ≡ store_all (st index.old 0) (placed (entries (story_in story.now.source.sections story.now.source.file.now))) }
 {
     let mut store = Store { index, count: 0 };
     visit_entries(story, &mut store);

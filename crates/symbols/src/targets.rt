@@ -1,24 +1,25 @@
 // Targets looked for among the entries of the index.
-ghost use Rattle.std.specs.Prelude.{◌≡◌, ◌∷◌, ◌/◌, ◌<◌, length};
+ghost use Rattle.std.specs.Prelude.{◌≡◌, ◌∷◌, ◌++◌, ◌/◌, ◌<◌, IfSome, is_some, length, min};
 ghost use Rattle.names.specs.Words.{same, any, ends};
 ghost use Rattle.symbols.specs.Fits.{fit_of, end_fit, answers};
-ghost use Rattle.symbols.specs.Rows.{dotted_in, spelling_in, spellings_in, row_at, first_of, wanted, sought};
+ghost use Rattle.symbols.specs.Rows.{dotted_in, spelling_in, spellings_of, row_at, first_of, wanted, sought};
 
 use crate::{ABSENT, Fit, Places};
 use names::{name_at, same_name};
 
-// The word s ends in "." and the other.
-fn ends_dotted(s: &[u8], end: &[u8]) -> bool
-    ensures { result ≡ ends (46 ∷ end.now) s.now }
+// What stands in the word before "." and the ending, if it ends so.
+fn before_dotted<'a>(word: &'a [u8], end: &[u8]) -> Option<&'a [u8]>
+    ensures ends { is_some result ≡ ends (46 ∷ end.now) word.now }
+    ensures before { IfSome result (λ before. before.now ++ (46 ∷ end.now) ≡ word.now) }
 {
-    if s.len() <= end.len() {
-        return false;
+    if word.len() <= end.len() {
+        return None;
     }
-    let from = s.len() - end.len();
-    if s[from - 1] != b'.' {
-        return false;
+    let dot = word.len() - end.len() - 1;
+    if word[dot] == b'.' && same_name(end, &word[dot + 1..]) {
+        return Some(&word[..dot]);
     }
-    same_name(end, &s[from..])
+    None
 }
 
 // How the target fits a spelling.
@@ -28,7 +29,7 @@ fn fit_word(target: &[u8], spelling: &[u8]) -> Fit
     if same_name(target, spelling) {
         return Fit::Exact;
     }
-    if ends_dotted(spelling, target) {
+    if before_dotted(spelling, target).is_some() {
         return Fit::Ending;
     }
     Fit::Differs
@@ -41,7 +42,7 @@ fn fit_end(target: &[u8], last: &[u8]) -> Fit
     if same_name(target, last) {
         return Fit::Ending;
     }
-    if ends_dotted(last, target) {
+    if before_dotted(last, target).is_some() {
         return Fit::Ending;
     }
     Fit::Differs
@@ -54,9 +55,8 @@ fn fit_flow(file: &[u8], flow: u32, last: &[u8], target: &[u8]) -> Fit
     if flow == ABSENT {
         return fit_word(target, last);
     }
-    if ends_dotted(target, last) {
-        let rest = target.len() - last.len() - 1;
-        return fit_word(&target[..rest], name_at(file, flow as usize));
+    if let Some(before) = before_dotted(target, last) {
+        return fit_word(before, name_at(file, flow as usize));
     }
     fit_end(target, last)
 }
@@ -69,14 +69,8 @@ pub fn fit_entry(file: &[u8], p: Places, target: &[u8]) -> Fit
     if p.stitch == ABSENT {
         return fit_flow(file, p.flow, own, target);
     }
-    if ends_dotted(target, own) {
-        let rest = target.len() - own.len() - 1;
-        return fit_flow(
-            file,
-            p.flow,
-            name_at(file, p.stitch as usize),
-            &target[..rest],
-        );
+    if let Some(before) = before_dotted(target, own) {
+        return fit_flow(file, p.flow, name_at(file, p.stitch as usize), before);
     }
     fit_end(target, own)
 }
@@ -99,55 +93,69 @@ pub fn is_answer(file: &[u8], p: Places, target: &[u8]) -> bool
     is_wanted(fit_entry(file, p, target), true, true)
 }
 
-// Entry number k of the index.
-pub fn entry_at(index: &[u32], k: usize) -> Places
-    requires { k < length index.now / 3 }
-    ensures { result ≡ row_at index.now k }
-{
-    let at = 3 * k;
-    Places {
-        flow: index[at],
-        stitch: index[at + 1],
-        own: index[at + 2],
-    }
+// The index of a file, of which so many entries are counted: three numbers each.
+#[derive(Clone, Copy)]
+pub struct EntryIndex<'a> {
+    pub file: &'a [u8],
+    pub numbers: &'a [u32],
+    pub count: usize,
 }
 
-// The number of the first of so many entries of the index whose spelling the target fits as wanted.
-fn find_entry(
-    file: &[u8],
-    index: &[u32],
-    count: usize,
-    target: &[u8],
-    exact: bool,
-    ending: bool,
-) -> Option<usize>
-    ensures { result ≡ first_of (sought exact ending target.now) 0 (spellings_in file.now count index.now) }
-{
-    for k in 0..count.min(index.len() / 3) {
-        if is_wanted(fit_entry(file, entry_at(index, k), target), exact, ending) {
-            return Some(k);
+impl EntryIndex<'_> {
+    // How many entries can be read: as many as are counted and stand in the numbers.
+    pub fn len(&self) -> usize
+        ensures { result ≡ min self.now.count (length self.now.numbers.now / 3) }
+    {
+        self.count.min(self.numbers.len() / 3)
+    }
+
+    // Entry number k.
+    pub fn entry_at(&self, k: usize) -> Places
+        requires { k < length self.now.numbers.now / 3 }
+        ensures { result ≡ row_at self.now.numbers.now k }
+    {
+        let at = 3 * k;
+        Places {
+            flow: self.numbers[at],
+            stitch: self.numbers[at + 1],
+            own: self.numbers[at + 2],
         }
     }
-    None
-}
 
-// The number of the first of so many entries whose spelling is the target.
-pub fn find_exact(file: &[u8], index: &[u32], count: usize, target: &[u8]) -> Option<usize>
-    ensures { result ≡ first_of (same target.now) 0 (spellings_in file.now count index.now) }
-{
-    find_entry(file, index, count, target, true, false)
-}
+    // The number of the first entry whose spelling the target fits as wanted.
+    fn find(&self, target: &[u8], exact: bool, ending: bool) -> Option<usize>
+        ensures { result ≡ first_of (sought exact ending target.now) 0 (spellings_of self.now) }
+    {
+        for k in 0..self.len() {
+            if is_wanted(
+                fit_entry(self.file, self.entry_at(k), target),
+                exact,
+                ending,
+            ) {
+                return Some(k);
+            }
+        }
+        None
+    }
 
-// The number of the first of so many entries whose spelling ends in "." and the target.
-pub fn find_ending(file: &[u8], index: &[u32], count: usize, target: &[u8]) -> Option<usize>
-    ensures { result ≡ first_of (ends (46 ∷ target.now)) 0 (spellings_in file.now count index.now) }
-{
-    find_entry(file, index, count, target, false, true)
-}
+    // The number of the first entry whose spelling is the target.
+    pub fn find_exact(&self, target: &[u8]) -> Option<usize>
+        ensures { result ≡ first_of (same target.now) 0 (spellings_of self.now) }
+    {
+        self.find(target, true, false)
+    }
 
-// Some of so many entries is spelled as the target, or ends in "." and the target.
-pub fn find_target(file: &[u8], index: &[u32], count: usize, target: &[u8]) -> bool
-    ensures { result ≡ any (answers target.now) (spellings_in file.now count index.now) }
-{
-    find_entry(file, index, count, target, true, true).is_some()
+    // The number of the first entry whose spelling ends in "." and the target.
+    pub fn find_ending(&self, target: &[u8]) -> Option<usize>
+        ensures { result ≡ first_of (ends (46 ∷ target.now)) 0 (spellings_of self.now) }
+    {
+        self.find(target, false, true)
+    }
+
+    // Some entry is spelled as the target, or ends in "." and the target.
+    pub fn has_target(&self, target: &[u8]) -> bool
+        ensures { result ≡ any (answers target.now) (spellings_of self.now) }
+    {
+        self.find(target, true, true).is_some()
+    }
 }

@@ -23,7 +23,8 @@ use Rattle.searches.specs.declared.views.FlowView.{FlowView}
 use Rattle.searches.specs.Called.{is_function}
 use Rattle.searches.specs.Views.{viewed_flow}
 use Rattle.tables.specs.Hashes.{hash_of}
-use Rattle.tables.specs.Tables.{Empty, slot_of}
+use Rattle.sets.specs.Sets.{Empty}
+use Rattle.tables.specs.Tables.{slot_of}
 use Rattle.sets.specs.declared.Sought.{Sought}
 use Rattle.sets.specs.declared.Sought.TheVariants as sought
 use Rattle.tables.specs.Functions.{sought_from, sought_of, is_vacant, with_place, with_flow, Functions}

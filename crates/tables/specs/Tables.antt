@@ -6,10 +6,6 @@ use Rattle.sets.specs.declared.Sought.{Sought}
 use Rattle.sets.specs.declared.Sought.TheVariants as sought
 use Rattle.tables.specs.Hashes.{hash_of}
 
--- every slot has the number 0
-pub record Empty (table : List ℕ) : Type 0 where
-  pub slot : (i : ℕ) → get_or table i 0 ≡ 0
-
 -- the slot of a word
 abbrev pub slot_of : List ℕ → Bytes → ℕ
 slot_of table w = hash_of w % length table

@@ -7,11 +7,11 @@ ghost use Rattle.searches.specs.Called.{is_function};
 ghost use Rattle.tables.specs.Functions.{sought_of, with_flow, Functions};
 
 use crate::hashes::hash_of;
-use crate::{clear, seek};
+use crate::seek;
 use names::{name_at, same_at};
 use searches::is_function_name;
 use searches::views::{FlowView, flow_view};
-use sets::Sought;
+use sets::{Sought, clear};
 use story::{FileView, Sections};
 
 // Goes over the slots of a name up to the name or an empty slot.
@@ -32,11 +32,8 @@ fn put_flow(file: &[u8], v: FlowView, table: &mut [u32])
     ensures { table.new ≡ with_flow file.now v table.old }
 {
     if v.function {
-        let found = seek_name(file, table, name_at(file, v.name));
-        match found {
-            Sought::Found => {}
-            Sought::Vacant(slot) => table[slot] = (v.name + 1) as u32,
-            Sought::Exhausted => {}
+        if let Sought::Vacant(slot) = seek_name(file, table, name_at(file, v.name)) {
+            table[slot] = (v.name + 1) as u32;
         }
     }
 }

@@ -2,14 +2,14 @@
 ghost use Rattle.std.specs.Prelude.{◌≡◌, ◌/◌, ◌≤◌, length};
 ghost use Rattle.names.specs.Words.{any};
 ghost use Rattle.symbols.specs.Fits.{answers};
-ghost use Rattle.symbols.specs.Rows.{spellings_in};
+ghost use Rattle.symbols.specs.Rows.{spellings_of};
 ghost use Rattle.tables.specs.Hints.{dotted_hash, entry_hash, Answered};
 
 use crate::hashes::{hash_of, hash_on};
-use crate::{clear, seek};
+use crate::seek;
 use names::name_at;
-use sets::Sought;
-use symbols::targets::{entry_at, find_target, is_answer};
+use sets::{Sought, clear};
+use symbols::targets::{EntryIndex, is_answer};
 use symbols::{ABSENT, Places};
 
 // Writes the number into the first empty slot of those that the hash has; where there is none, nothing.
@@ -43,69 +43,54 @@ fn hash_entry(file: &[u8], p: Places) -> usize
     hash_on(stitch, name_at(file, p.own as usize))
 }
 
-// How many entries have hints: as many as are counted and stand in the index, at most as many as a file has bytes.
-fn entry_count(index: &[u32], count: usize) -> usize
-    ensures { (result ≤ length index.now / 3) × (result ≤ 1048576) }
+// How many entries have hints: at most as many as a file has bytes.
+fn hinted_count(index: &EntryIndex<'_>) -> usize
+    ensures { (result ≤ length index.now.numbers.now / 3) × (result ≤ 1048576) }
 {
-    count.min(1048576).min(index.len() / 3)
+    index.len().min(1048576)
 }
 
 // Writes the numbers of the entries, plus 1, by their spellings and, where a flow's name stands before it, by their own names. Nothing is
 // promised of what the table holds then.
-pub fn put_hints(file: &[u8], index: &[u32], count: usize, hints: &mut [u32])
+pub fn put_hints(index: &EntryIndex<'_>, hints: &mut [u32])
     ensures { length hints.new ≡ length hints.old }
 {
     clear(hints);
-    let end = entry_count(index, count);
-    for k in 0..end {
-        let p = entry_at(index, k);
+    for k in 0..hinted_count(index) {
+        let p = index.entry_at(k);
         let number = k as u32 + 1;
-        put_hint(hints, hash_entry(file, p), number);
+        put_hint(hints, hash_entry(index.file, p), number);
         if p.flow != ABSENT {
-            put_hint(hints, hash_of(name_at(file, p.own as usize)), number);
+            put_hint(hints, hash_of(name_at(index.file, p.own as usize)), number);
         }
     }
 }
 
-// Entry number k is one of the first so many entries, and its spelling answers the target.
-fn entry_answers(file: &[u8], index: &[u32], count: usize, k: usize, target: &[u8]) -> bool
-    ensures { Answered target.now (spellings_in file.now count index.now) result }
+// Entry number k is one of the index, and its spelling answers the target.
+fn entry_answers(index: &EntryIndex<'_>, k: usize, target: &[u8]) -> bool
+    ensures { Answered target.now (spellings_of index.now) result }
 {
-    k < count.min(index.len() / 3) && is_answer(file, entry_at(index, k), target)
+    k < index.len() && is_answer(index.file, index.entry_at(k), target)
 }
 
 // One of the slots that the hash has leads to an entry that answers the target.
-fn find_in_slots(
-    file: &[u8],
-    index: &[u32],
-    count: usize,
-    table: &[u32],
-    hash: usize,
-    target: &[u8],
-) -> bool
-    ensures { Answered target.now (spellings_in file.now count index.now) result }
+fn find_in_slots(index: &EntryIndex<'_>, table: &[u32], hash: usize, target: &[u8]) -> bool
+    ensures { Answered target.now (spellings_of index.now) result }
 {
     if table.is_empty() {
         return false;
     }
     let is_met = |number: usize| -> bool
         requires { number ≡ 0 → ⊥ }
-        ensures { Answered target.entry.now (spellings_in file.entry.now count index.entry.now) result }
-    { entry_answers(file, index, count, number - 1, target) };
+        ensures { Answered target.entry.now (spellings_of index.entry.now) result }
+    { entry_answers(index, number - 1, target) };
     let found = seek(table, hash, is_met);
-    matches!(found, Sought::Found)
+    found == Sought::Found
 }
 
-// Some of so many entries is spelled as the target, or ends in "." and the target: by the table, or by going through the entries.
-pub fn find_target_in(
-    file: &[u8],
-    index: &[u32],
-    count: usize,
-    hints: &[u32],
-    target: &[u8],
-) -> bool
-    ensures { result ≡ any (answers target.now) (spellings_in file.now count index.now) }
+// Some entry is spelled as the target, or ends in "." and the target: by the table, or by going through the entries.
+pub fn find_target_in(index: &EntryIndex<'_>, hints: &[u32], target: &[u8]) -> bool
+    ensures { result ≡ any (answers target.now) (spellings_of index.now) }
 {
-    find_in_slots(file, index, count, hints, hash_of(target), target)
-        || find_target(file, index, count, target)
+    find_in_slots(index, hints, hash_of(target), target) || index.has_target(target)
 }

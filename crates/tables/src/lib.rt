@@ -2,7 +2,7 @@
 #![tactic(auto)]
 
 ghost use Rattle.std.specs.Prelude.{◌≡◌, ◌%◌, ◌<◌, ℕ, length};
-ghost use Rattle.tables.specs.Tables.{Empty, EndsAt};
+ghost use Rattle.tables.specs.Tables.{EndsAt};
 
 use hashes::{TRIES, next_slot, slot_of};
 use sets::Sought;
@@ -10,13 +10,6 @@ use sets::Sought;
 pub mod functions;
 pub mod hashes;
 pub mod hints;
-
-// Makes every slot of a table empty.
-pub fn clear(table: &mut [u32])
-    ensures { Empty table.new }
-{
-    table.fill(0);
-}
 
 // Looks at slot after slot of those that a hash has, up to one that is empty or whose number is met.
 pub fn seek<F: Fn(usize) -> bool>(table: &[u32], hash: usize, is_met: F) -> Sought

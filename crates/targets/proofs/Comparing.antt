@@ -2,11 +2,12 @@
 use mathlib.Core.Path.{◌≡◌, refl, sym}
 use mathlib.Core.Bool.{Bool, true, false, ◌&&◌, and_assoc, and-true, and-false}
 use mathlib.Core.List.{List, [], ◌∷◌, ◌++◌}
-use Prim.Native.Nat.{ℕ, zero, suc, ◌+◌, ◌-◌, ◌<◌}
+use Prim.Native.Nat.{ℕ, suc, ◌+◌, ◌-◌, ◌<◌}
 use native.Mathlib.Omega.{arith}
 use lib.Dec.{eqb}
 use lib.ListN.{length, get_or, take, drop, length-append}
 use borrow.Author.Tests.{ne_eqb}
+use Rattle.std.specs.Prelude.{Option, Some, None}
 use Rattle.fields.proofs.Laws.{to_end}
 use Rattle.names.specs.Words.{Bytes, same}
 use Rattle.names.specs.Counted.{name_at}
@@ -19,64 +20,64 @@ use Rattle.targets.specs.Slots.{after, end_word}
 
 -- 1. A dot and a name
 
-module _ (file : List ℕ) where
-  -- there is no name
-  after_none : {number : ℕ} → number ≡ 0 → after file number ≡ []
-  unfolding after
-  after_none z = rw z
+module _ (file : List ℕ) {place : Option ℕ} where
+  module _ (z : place ≡ None) where
+    -- there is no name
+    after_none : after file place ≡ []
+    unfolding after
+    after_none = rw z
 
-  -- there is one
-  after-some : (number : ℕ) → (number ≡ 0 → ⊥) → after file number ≡ 46 ∷ name_at file (number - 1)
-  unfolding after
-  after-some zero z = absurd (z refl)
-  after-some (suc k) z = let e : suc k - 1 ≡ k = omega arith in rw e
+    -- how many bytes, where there is no name
+    pub length_none : 0 ≡ length (after file place)
+    length_none = rw after_none
 
-  -- how many bytes, where there is no name
-  pub length_none : {number : ℕ} → number ≡ 0 → 0 ≡ length (after file number)
-  length_none z = rw (after_none z)
+    -- the hash goes on over them, where there is no name
+    pub hash-none : (start : ℕ) → start ≡ hash_from start (after file place)
+    unfolding hash_from
+    hash-none start = rw after_none
 
-  -- how many bytes, where there is one
-  pub length_some : (number : ℕ) {name : Bytes} → (number ≡ 0 → ⊥) → name ≡ name_at file (number - 1) → 1 + length name ≡ length (after file number)
-  length_some number z e = rw (after-some number z, ← e) (omega arith)
-
-  -- the hash goes on over them, where there is no name
-  pub hash-none : (start : ℕ) {number : ℕ} → number ≡ 0 → start ≡ hash_from start (after file number)
-  unfolding hash_from
-  hash-none start z = rw (after_none z)
-
-  -- the hash goes on over them, where there is one
-  pub hash-some : (start number : ℕ) {name : Bytes} {h r : ℕ} → (number ≡ 0 → ⊥) → h ≡ hash_from start (46 ∷ []) → name ≡ name_at file (number - 1) → r ≡ hash_from h name
-      → r ≡ hash_from start (after file number)
-  hash-some start number {name} z p e q = rw (q, p, after-some number z, ← e) (sym (hash-append start (46 ∷ []) name))
-
-  -- a word against them, where there is no name
-  pub same_none : (number : ℕ) (word : Bytes) → number ≡ 0 → eqb (length word) 0 ≡ same word (after file number)
-  same_none number word z = rw (after_none z) (by_word word)
-    where
-      by_word : (w : Bytes) → eqb (length w) 0 ≡ same w []
-      by_word [] = refl
-      by_word (x ∷ w) = ne_eqb (suc (length w)) 0 (λ q. omega arith)
-
-  module _ (number : ℕ) (word : Bytes) (z : number ≡ 0 → ⊥) where
-    -- an empty word
-    pub same-empty : length word ≡ 0 → false ≡ same word (after file number)
-    same-empty e = rw (after-some number z) (sym (same-lengths word (46 ∷ name_at file (number - 1)) (λ q. omega arith)))
-
-    -- a word that begins with another byte
-    pub same-other : (length word ≡ 0 → ⊥) → (get_or word 0 0 ≡ 46 → ⊥) → false ≡ same word (after file number)
-    same-other l d = rw (after-some number z) (by_word word l d)
+    -- a word against them, where there is no name
+    pub same_none : (word : Bytes) → eqb (length word) 0 ≡ same word (after file place)
+    same_none word = rw after_none (by_word word)
       where
-        by_word : (w : Bytes) → (length w ≡ 0 → ⊥) → (get_or w 0 0 ≡ 46 → ⊥) → false ≡ same w (46 ∷ name_at file (number - 1))
-        by_word [] l d = refl
-        by_word (x ∷ w) l d = rw (ne_eqb x 46 d)
+        by_word : (w : Bytes) → eqb (length w) 0 ≡ same w []
+        by_word [] = refl
+        by_word (x ∷ w) = ne_eqb (suc (length w)) 0 (λ q. omega arith)
 
-    -- a word that begins with a dot: its rest decides
-    pub same-dot : {r : Bool} → (length word ≡ 0 → ⊥) → get_or word 0 0 ≡ 46 → r ≡ same (take (length word - 1) (drop 1 word)) (name_at file (number - 1)) → r ≡ same word (after file number)
-    same-dot {r} l d e = rw (after-some number z) (by_word word l d (rw (to_end 1 word) at e))
-      where
-        by_word : (w : Bytes) → (length w ≡ 0 → ⊥) → get_or w 0 0 ≡ 46 → r ≡ same (drop 1 w) (name_at file (number - 1)) → r ≡ same w (46 ∷ name_at file (number - 1))
-        by_word [] l d e = absurd (l refl)
-        by_word (x ∷ w) l d e = rw d e
+  module _ {at : ℕ} (z : place ≡ Some at) where
+    -- there is one
+    after-some : after file place ≡ 46 ∷ name_at file at
+    unfolding after
+    after-some = rw z
+
+    -- how many bytes, where there is one
+    pub length_some : {name : Bytes} → name ≡ name_at file at → 1 + length name ≡ length (after file place)
+    length_some e = rw (after-some, ← e) (omega arith)
+
+    -- the hash goes on over them, where there is one
+    pub hash-some : (start : ℕ) {name : Bytes} {h r : ℕ} → h ≡ hash_from start (46 ∷ []) → name ≡ name_at file at → r ≡ hash_from h name → r ≡ hash_from start (after file place)
+    hash-some start {name} p e q = rw (q, p, after-some, ← e) (sym (hash-append start (46 ∷ []) name))
+
+    module _ (word : Bytes) where
+      -- an empty word
+      pub same-empty : length word ≡ 0 → false ≡ same word (after file place)
+      same-empty e = rw after-some (sym (same-lengths word (46 ∷ name_at file at) (λ q. omega arith)))
+
+      -- a word that begins with another byte
+      pub same-other : (length word ≡ 0 → ⊥) → (get_or word 0 0 ≡ 46 → ⊥) → false ≡ same word (after file place)
+      same-other l d = rw after-some (by_word word l d)
+        where
+          by_word : (w : Bytes) → (length w ≡ 0 → ⊥) → (get_or w 0 0 ≡ 46 → ⊥) → false ≡ same w (46 ∷ name_at file at)
+          by_word [] l d = refl
+          by_word (x ∷ w) l d = rw (ne_eqb x 46 d)
+
+      -- a word that begins with a dot: its rest decides
+      pub same-dot : {r : Bool} → (length word ≡ 0 → ⊥) → get_or word 0 0 ≡ 46 → r ≡ same (take (length word - 1) (drop 1 word)) (name_at file at) → r ≡ same word (after file place)
+      same-dot {r} l d e = rw after-some (by_word word l d (rw (to_end 1 word) at e))
+        where
+          by_word : (w : Bytes) → (length w ≡ 0 → ⊥) → get_or w 0 0 ≡ 46 → r ≡ same (drop 1 w) (name_at file at) → r ≡ same w (46 ∷ name_at file at)
+          by_word [] l d e = absurd (l refl)
+          by_word (x ∷ w) l d e = rw d e
 
 -- 2. A word against two parts
 
@@ -137,9 +138,9 @@ module _ (file : List ℕ) where
   pub places_same : (a b : ℕ) {w : Bytes} {r : Bool} → w ≡ name_at file a → r ≡ same w (name_at file b) → r ≡ true → name_at file a ≡ name_at file b
   places_same a b {w} e q t = rw (← e) (same-eq w (name_at file b) (rw (← q, t) tt))
 
-  -- the names of two numbers
-  pub numbers-same : (a b : ℕ) → (a ≡ 0 → ⊥) → (b ≡ 0 → ⊥) → name_at file (a - 1) ≡ name_at file (b - 1) → after file a ≡ after file b
-  numbers-same a b y z e = rw (after-some file a y, after-some file b z, e)
+  -- the names at two places that are there
+  pub names-same : {a b : Option ℕ} {p q : ℕ} → a ≡ Some p → b ≡ Some q → name_at file p ≡ name_at file q → after file a ≡ after file b
+  names-same y z e = rw (after-some file y, after-some file z, e)
 
   -- two ends of the same names and as many dots
   pub parts_same : (e f : DottedEnd) → e.dots ≡ f.dots → after file e.third ≡ after file f.third → after file e.second ≡ after file f.second

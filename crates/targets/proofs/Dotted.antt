@@ -4,11 +4,10 @@ use mathlib.Core.Bool.{Bool, true, false}
 use mathlib.Core.List.{List, [], ◌∷◌, ◌++◌, append-nil}
 use Prim.Native.Nat.{ℕ, zero, suc, ◌+◌, ◌-◌, ◌<◌}
 use native.Mathlib.Omega.{arith}
-use native.Mathlib.Numerals.{add-one}
 use lib.Dec.{eqb}
 use lib.ListN.{length, get_or, take, drop, length-drop}
 use native.Mathlib.Decide.{ℕ_discrete}
-use Rattle.std.specs.Prelude.{count_by, cond}
+use Rattle.std.specs.Prelude.{Some, None, count_by, cond}
 use Rattle.std.proofs.lemmas.List.Recursion.{is_count_by}
 use borrow.Author.Tests.{ne_eqb}
 use Rattle.fields.specs.Bytes.{pick}
@@ -21,7 +20,7 @@ use Rattle.symbols.specs.Numbers.{absent}
 use Rattle.symbols.specs.Rows.{dotted_in, spelling_in}
 use Rattle.symbols.specs.Fits.{answers}
 use Rattle.targets.specs.Ends.{after_dots, dotted_ends, end_at, before}
-use Rattle.targets.specs.Slots.{number_of, after}
+use Rattle.targets.specs.Slots.{place_of, after}
 use Rattle.targets.specs.Entries.{ends_from}
 
 -- 1. What a target answers
@@ -63,37 +62,37 @@ before-none (e ∷ l) = rw (append-nil e, before-none l)
 
 module _ (file : List ℕ) where
   -- of a name, if there is one, before a word
-  ends-dotted : (at : ℕ) (rest : Bytes) → dotted_ends (dotted_in file at rest) ≡ ends_from file at (46 ∷ rest) ++ dotted_ends rest
+  ends-dotted : (at : ℕ) (rest : Bytes) → dotted_ends (dotted_in file at rest) ≡ ends_from file (place_of at) (46 ∷ rest) ++ dotted_ends rest
   ends-dotted at rest = by_name (eqb at absent)
     where
-      by_name : (b : Bool) → dotted_ends (pick b rest (name_at file at ++ (46 ∷ rest))) ≡ pick b [] (before (46 ∷ rest) (dotted_ends (name_at file at))) ++ dotted_ends rest
+      by_name : (b : Bool) → dotted_ends (pick b rest (name_at file at ++ (46 ∷ rest))) ≡ ends_from file (pick b None (Some at)) (46 ∷ rest) ++ dotted_ends rest
       by_name true = refl
       by_name false = ends-joined (name_at file at) rest
 
   -- a dot and the name at a place
-  number-some : (at : ℕ) → (at ≡ absent → ⊥) → after file (number_of at) ≡ 46 ∷ name_at file at
+  after-there : (at : ℕ) → (at ≡ absent → ⊥) → after file (place_of at) ≡ 46 ∷ name_at file at
   unfolding after
-  number-some at h = rw (ne_eqb at absent h, add-one)
+  after-there at h = rw (ne_eqb at absent h)
 
   -- what follows a flow's name
-  after_both : (stitch own : ℕ) → (own ≡ absent → ⊥) → after file (number_of stitch) ++ after file (number_of own) ≡ 46 ∷ dotted_in file stitch (name_at file own)
+  after_both : (stitch own : ℕ) → (own ≡ absent → ⊥) → after file (place_of stitch) ++ after file (place_of own) ≡ 46 ∷ dotted_in file stitch (name_at file own)
   unfolding after
-  after_both stitch own h = rw (number-some own h) (by_name (eqb stitch absent))
+  after_both stitch own h = rw (after-there own h) (by_name (eqb stitch absent))
     where
-      by_name : (b : Bool) → after file (pick b 0 (stitch + 1)) ++ (46 ∷ name_at file own) ≡ 46 ∷ pick b (name_at file own) (name_at file stitch ++ (46 ∷ name_at file own))
+      by_name : (b : Bool) → after file (pick b None (Some stitch)) ++ (46 ∷ name_at file own) ≡ 46 ∷ pick b (name_at file own) (name_at file stitch ++ (46 ∷ name_at file own))
       by_name true = refl
-      by_name false = rw add-one
+      by_name false = refl
 
   -- of an entry: those that begin in its flow's name, in its stitch's name, and in its own
   pub ends-spelling : (p : Places) → (p.own ≡ absent → ⊥)
-      → ends_from file p.flow (after file (number_of p.stitch) ++ after file (number_of p.own))
-      ++ (ends_from file p.stitch (after file 0 ++ after file (number_of p.own)) ++ ends_from file p.own (after file 0 ++ after file 0))
+      → ends_from file (place_of p.flow) (after file (place_of p.stitch) ++ after file (place_of p.own))
+      ++ (ends_from file (place_of p.stitch) (after file None ++ after file (place_of p.own)) ++ ends_from file (place_of p.own) (after file None ++ after file None))
       ≡ dotted_ends (spelling_in file p)
   unfolding spelling_in after
   ends-spelling p h =
       rw (
         after_both p.stitch p.own h,
-        number-some p.own h,
+        after-there p.own h,
         ne_eqb p.own absent h,
         before-none (dotted_ends (name_at file p.own)),
         ends-dotted p.flow (dotted_in file p.stitch (name_at file p.own)),

@@ -3,10 +3,10 @@ use mathlib.Core.Path.{◌≡◌, refl, ◌∙◌}
 use mathlib.Core.Bool.{Bool, true, false, ◌||◌, or_assoc, or_comm, or-false}
 use mathlib.Core.List.{List, [], ◌∷◌, ◌++◌, map}
 use mathlib.Core.Logic.{inl, inr}
-use Prim.Native.Nat.{ℕ, ◌+◌, ◌<◌}
+use Prim.Native.Nat.{ℕ}
 use native.Mathlib.Omega.{arith}
 use borrow.Author.Tests.{eq-eqb, ne_eqb}
-use Rattle.std.specs.Prelude.{Result, Ok, Err, is_err}
+use Rattle.std.specs.Prelude.{Result, Option, Ok, Err, Some, None, is_err}
 use Rattle.std.specs.Result.{result_and}
 use Rattle.names.specs.Words.{Bytes, any, one_of}
 use Rattle.names.proofs.Bools.{is_true}
@@ -17,40 +17,40 @@ use Rattle.symbols.specs.Numbers.{absent}
 use Rattle.symbols.specs.Rows.{spelling_in}
 use Rattle.symbols.specs.Fits.{answers}
 use Rattle.targets.specs.Ends.{dotted_ends}
-use Rattle.targets.specs.Slots.{after, number_of, end_slots}
-use Rattle.targets.specs.Put.{NameFits, Gained}
+use Rattle.targets.specs.Slots.{place_of, after, end_slots}
+use Rattle.targets.specs.Put.{NameFits, PlaceFits, Gained}
 use Rattle.targets.specs.Entries.{ends_with, ends_from, PlacesFit, EntryPut, answered, Put, TargetsIn}
 use Rattle.targets.proofs.Dotted.{answers-ends, ends-spelling}
 use Rattle.targets.proofs.Gaining.{gained-none, gained-full, gained-append, regroup, or-widen, or-false-left, or-false-right}
 
 -- 1. One entry
 
--- a place that is none, or fits
-pub place-fits : {at : ℕ} → NameFits at → (at ≡ absent → ⊥) → at < 1048575
-place-fits (inl e) n = absurd (n e)
-place-fits (inr h) n = h
+-- a place that fits, as a place that is there or is not
+pub place-fits : {at : ℕ} → NameFits at → PlaceFits (place_of at)
+place-fits {at} (inl e) = rw (eq-eqb at absent e) tt
+place-fits {at} (inr h) = rw (ne_eqb at absent (λ e. omega arith)) h
 
 -- a place that fits is not none
 pub own-there : {p : Places} → PlacesFit p → p.own ≡ absent → ⊥
 own-there f e = omega (arith, f.own)
 
--- the number of no name
-pub number-none : {at : ℕ} → at ≡ absent → 0 ≡ number_of at
-number-none {at} e = rw (eq-eqb at absent e)
+-- no place
+pub place-none : {at : ℕ} → at ≡ absent → None ≡ place_of at
+place-none {at} e = rw (eq-eqb at absent e)
 
--- the number of a name
-pub number-some : {at : ℕ} → (at ≡ absent → ⊥) → at + 1 ≡ number_of at
-number-some {at} n = rw (ne_eqb at absent n)
+-- a place
+pub place-some : {at : ℕ} → (at ≡ absent → ⊥) → Some at ≡ place_of at
+place-some {at} n = rw (ne_eqb at absent n)
 
 module _ (file : List ℕ) (rest : Bytes) where
   -- there is no name
-  pub from-none : {at : ℕ} {set : List ℕ} → at ≡ absent → Reachable (end_slots file) set → Gained (end_slots file) (ends_from file at rest) set set false
-  from-none {at} e r = rw (eq-eqb at absent e) (gained-none (end_slots file) r)
+  pub from-none : {place : Option ℕ} {set : List ℕ} → place ≡ None → Reachable (end_slots file) set → Gained (end_slots file) (ends_from file place rest) set set false
+  from-none e r = rw e (gained-none (end_slots file) r)
 
   -- there is one
-  pub from_some : {at : ℕ} {before after : List ℕ} {left : Bool} → (at ≡ absent → ⊥) → Gained (end_slots file) (ends_with file at rest) before after left
-      → Gained (end_slots file) (ends_from file at rest) before after left
-  from_some {at} n g = rw (ne_eqb at absent n) g
+  pub from_some : {place : Option ℕ} {at : ℕ} {before after : List ℕ} {left : Bool} → place ≡ Some at → Gained (end_slots file) (ends_with file at rest) before after left
+      → Gained (end_slots file) (ends_from file place rest) before after left
+  from_some e g = rw e g
 
 module _ (file : List ℕ) (p : Places) where
   -- its dotted ends are the targets that it answers
@@ -67,13 +67,14 @@ module _ (file : List ℕ) (p : Places) where
   entry-none r = entry-gained (gained-full (end_slots file) r (dotted_ends (spelling_in file p)))
 
   -- the ends that begin in its flow's name were put, those in its stitch's, and those in its own
-  pub entry-put : {own stitch : ℕ} {before second third last : List ℕ} {a b c : Bool} → PlacesFit p → own ≡ number_of p.own → stitch ≡ number_of p.stitch
-      → Gained (end_slots file) (ends_from file p.flow (after file stitch ++ after file own)) before second a
-      → Gained (end_slots file) (ends_from file p.stitch (after file 0 ++ after file own)) second third b
-      → Gained (end_slots file) (ends_from file p.own (after file 0 ++ after file 0)) third last c
+  pub entry-put : {flow stitch own : Option ℕ} {before second third last : List ℕ} {a b c : Bool} → PlacesFit p → flow ≡ place_of p.flow → stitch ≡ place_of p.stitch
+      → own ≡ place_of p.own
+      → Gained (end_slots file) (ends_from file flow (after file stitch ++ after file own)) before second a
+      → Gained (end_slots file) (ends_from file stitch (after file None ++ after file own)) second third b
+      → Gained (end_slots file) (ends_from file own (after file None ++ after file None)) third last c
       → EntryPut file p before last ((a || b) || c)
-  entry-put {a = a} {b} {c} f o s x y z =
-      entry-gained (rw (← ends-spelling file p (own-there f), ← o, ← s, or_assoc a b c) (gained-append x (gained-append y z)))
+  entry-put {a = a} {b} {c} f l s o x y z =
+      entry-gained (rw (← ends-spelling file p (own-there f), ← l, ← s, ← o, or_assoc a b c) (gained-append x (gained-append y z)))
 
 -- one of two answers is an error
 pub err-either : {E : Type 0} (x y : Result (Unit {0}) E) → is_err (result_and x y) ≡ is_err x || is_err y

@@ -9,6 +9,7 @@ use native.Mathlib.Numerals.{add-one}
 use lib.Dec.{T}
 use lib.ListN.{length, get_or, set, take, drop, take-append-drop, length-map, get_or-map}
 use lib.Seq.{take-suc, take_all}
+use Rattle.std.specs.Prelude.{Option, Some}
 use Rattle.names.specs.Words.{Bytes, same, one_of}
 use Rattle.names.specs.Counted.{name_at}
 use Rattle.names.proofs.Bools.{is_true, or_cases, or_left, or_right}
@@ -22,7 +23,7 @@ use Rattle.sets.proofs.Held.{held_at}
 use Rattle.sets.proofs.Putting.{put-known, reachable-after, holds_after}
 use Rattle.targets.specs.declared.DottedEnd.{DottedEnd}
 use Rattle.targets.specs.Ends.{after_dots, dotted_ends}
-use Rattle.targets.specs.Slots.{after, end_word, slot_end, end_slots}
+use Rattle.targets.specs.Slots.{numbered, after, end_word, slot_end, InSlot, end_slots}
 use Rattle.targets.specs.Put.{EndFits, Compared, Probed, Gained}
 use Rattle.targets.specs.Entries.{ends_with}
 use Rattle.targets.proofs.Dotted.{ends-nth, ends-count}
@@ -123,6 +124,20 @@ gained-front {k} n ws {before} g = record {
 low : (a b : ℕ) → a < 1048576 → (a + b * 1048576) % 1048576 ≡ a
 low a b h = omega arith
 
+-- the slot that has an end, by the numbers of its places
+pub slot-has : (e : DottedEnd) {second third : ℕ} → EndFits e → numbered second ≡ e.second → second < 1048576 → numbered third ≡ e.third → third < 1048576
+    → InSlot (1 + (e.first + second * 1048576 + third * 1099511627776 + e.dots * 1152921504606846976)) (Some e)
+slot-has e {second = s} {third = t} h p l q m =
+    let n = e.first + s * 1048576 + t * 1099511627776 + e.dots * 1152921504606846976 in
+    let back : 1 + n - 1 ≡ n = omega arith in
+    let first : n % 1048576 ≡ e.first = omega (arith, h.parts.first_fits) in
+    let past_first : n / 1048576 ≡ s + (t + e.dots * 1048576) * 1048576 = omega (arith, h.parts.first_fits) in
+    let second : n / 1048576 % 1048576 ≡ s = rw past_first (low s (t + e.dots * 1048576) l) in
+    let past-second : n / 1099511627776 ≡ t + e.dots * 1048576 = omega (arith, h.parts.first_fits, l) in
+    let third : n / 1099511627776 % 1048576 ≡ t = rw past-second (low t e.dots m) in
+    let dots : n / 1152921504606846976 ≡ e.dots = omega (arith, h.parts.first_fits, l, m) in
+    (λ z. omega arith, rw (back, first, second, third, dots, p, q))
+
 -- by where the walk over the slots of the end stopped
 module _ (file slots : List ℕ) (e : DottedEnd) (r : Reachable (end_slots file) slots) {x : Sought}
     (t : Probed (end_slots file) slots (end_word file e) x) where
@@ -141,28 +156,16 @@ module _ (file slots : List ℕ) (e : DottedEnd) (r : Reachable (end_slots file)
   vacant-room q = rw q at t
 
   -- at an empty slot, in which the end is stored
-  pub vacant-gained : {s : ℕ} → x ≡ sought.Vacant s → EndFits e
-      → Gained (end_slots file) (end_word file e ∷ []) slots
-      (set slots s (1 + (e.first + e.second * 1048576 + e.third * 1099511627776 + e.dots * 1152921504606846976))) false
-  vacant-gained {s} q h =
-      let n = e.first + e.second * 1048576 + e.third * 1099511627776 + e.dots * 1152921504606846976 in
-      let v = 1 + n in
-      let back : v - 1 ≡ n = omega arith in
-      let first : n % 1048576 ≡ e.first = omega (arith, h.parts.first_fits) in
-      let past_first : n / 1048576 ≡ e.second + (e.third + e.dots * 1048576) * 1048576 = omega (arith, h.parts.first_fits) in
-      let second : n / 1048576 % 1048576 ≡ e.second = rw past_first (low e.second (e.third + e.dots * 1048576) h.parts.second_fits) in
-      let past-second : n / 1099511627776 ≡ e.third + e.dots * 1048576 = omega (arith, h.parts.first_fits, h.parts.second_fits) in
-      let third : n / 1099511627776 % 1048576 ≡ e.third = rw past-second (low e.third e.dots h.parts.third_fits) in
-      let dots : n / 1152921504606846976 ≡ e.dots = omega (arith, h.parts.first_fits, h.parts.second_fits, h.parts.third_fits) in
-      let filled : v ≡ 0 → ⊥ = λ z. omega arith in
-      let named : end_word file (slot_end v) ≡ end_word file e = rw (back, first, second, third, dots) in
+  pub vacant-gained : {s v : ℕ} → x ≡ sought.Vacant s → InSlot v (Some e) → Gained (end_slots file) (end_word file e ∷ []) slots (set slots s v) false
+  vacant-gained {s} {v} q h =
+      let named : end_word file (slot_end v) ≡ end_word file e = rw (← h.1) in
       gained-all (end_slots file) (end_word file e ∷ [])
-      (reachable-after (end_slots file) slots r (end_word file e) v s (vacant-room q) filled named refl)
-      (λ w. rw (or-false (same w (end_word file e))) (holds_after (end_slots file) slots r (end_word file e) v s (vacant-room q) filled named refl w))
+      (reachable-after (end_slots file) slots r (end_word file e) v s (vacant-room q) h.0 named refl)
+      (λ w. rw (or-false (same w (end_word file e))) (holds_after (end_slots file) slots r (end_word file e) v s (vacant-room q) h.0 named refl w))
 
 -- 4. The ends that begin in a name
 
-module _ (file : List ℕ) (first second third : ℕ) where
+module _ (file : List ℕ) (first : ℕ) (second third : Option ℕ) where
   -- what follows the name
   abbrev rest : Bytes
   rest = after file second ++ after file third

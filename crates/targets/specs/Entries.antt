@@ -1,11 +1,9 @@
 -- The targets that entries answer, put into a set entry by entry. Assumes nothing.
-use Rattle.std.specs.Prelude.{ℕ, ◌<◌, ◌≡◌, Bool, false, ◌||◌, List, [], map, T, eqb}
-use Rattle.fields.specs.Bytes.{pick}
+use Rattle.std.specs.Prelude.{Option, Some, None, ℕ, ◌<◌, ◌≡◌, Bool, false, ◌||◌, List, [], map, T}
 use Rattle.names.specs.Words.{Bytes, any, one_of}
 use Rattle.names.specs.Counted.{name_at}
 use Rattle.sets.specs.Sets.{held, Reachable}
 use Rattle.symbols.specs.declared.Places.{Places}
-use Rattle.symbols.specs.Numbers.{absent}
 use Rattle.symbols.specs.Rows.{spelling_in}
 use Rattle.symbols.specs.Fits.{answers}
 use Rattle.targets.specs.Ends.{dotted_ends, before}
@@ -18,9 +16,10 @@ use Rattle.targets.specs.Put.{NameFits}
 abbrev pub ends_with : List ℕ → ℕ → Bytes → List Bytes
 ends_with file first rest = before rest (dotted_ends (name_at file first))
 
--- the same, where there is a name at the place
-abbrev pub ends_from : List ℕ → ℕ → Bytes → List Bytes
-ends_from file at rest = pick (eqb at absent) [] (ends_with file at rest)
+-- the same, where there is such a place
+abbrev pub ends_from : List ℕ → Option ℕ → Bytes → List Bytes
+ends_from file None rest = []
+ends_from file (Some first) rest = ends_with file first rest
 
 -- the places of an entry's names that a slot has room for
 pub record PlacesFit (p : Places) : Type 0 where

@@ -1,5 +1,5 @@
 -- Putting ends into a set of targets. Assumes nothing.
-use Rattle.std.specs.Prelude.{ℕ, ◌<◌, ◌≡◌, Bool, true, false, ◌||◌, List, ◌⊎◌, T, get_or}
+use Rattle.std.specs.Prelude.{Option, Some, None, ℕ, ◌<◌, ◌≡◌, Bool, true, false, ◌||◌, List, ◌⊎◌, T, get_or}
 use Rattle.names.specs.Words.{Bytes, one_of}
 use Rattle.sets.specs.declared.Sought.{Sought}
 use Rattle.sets.specs.declared.Sought.TheVariants as sought
@@ -15,11 +15,16 @@ use Rattle.symbols.specs.Numbers.{absent}
 abbrev pub NameFits : ℕ → Type 0
 NameFits at = (at ≡ absent) ⊎ (at < 1048575)
 
--- the place of a first name, and the numbers of two names
-pub record PartsFit (first second third : ℕ) : Type 0 where
+-- the same of a place that is there or is not
+abbrev pub PlaceFits : Option ℕ → Type 0
+PlaceFits None = Unit {0}
+PlaceFits (Some at) = at < 1048575
+
+-- the place of a first name, and those of two more names
+pub record PartsFit (first : ℕ) (second third : Option ℕ) : Type 0 where
   pub first_fits : first < 1048575
-  pub second_fits : second < 1048576
-  pub third_fits : third < 1048576
+  pub second_fits : PlaceFits second
+  pub third_fits : PlaceFits third
 
 -- an end
 pub record EndFits (e : DottedEnd) : Type 0 where

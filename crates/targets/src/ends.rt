@@ -4,7 +4,7 @@ ghost use Rattle.names.specs.Words.{same};
 ghost use Rattle.names.specs.Counted.{name_at};
 ghost use Rattle.sets.specs.Hashes.{hash_from, hash_of};
 ghost use Rattle.targets.specs.Ends.{after_dots, end_at};
-ghost use Rattle.targets.specs.Slots.{after, end_word, slot_end};
+ghost use Rattle.targets.specs.Slots.{after, end_word};
 
 use crate::DottedEnd;
 use names::{name_at, same_at, same_name};
@@ -35,35 +35,19 @@ fn end_of<'a>(word: &'a [u8], dots: usize) -> &'a [u8]
     rest
 }
 
-// The end that a slot has.
-pub fn end_in(slot: usize) -> DottedEnd
-    requires { slot ≡ 0 → ⊥ }
-    ensures { result ≡ slot_end slot }
+// The hash goes on over a dot and the name at the place, where there is one.
+fn hash_after(file: &[u8], start: u32, place: Option<usize>) -> u32
+    ensures { result ≡ hash_from start (after file.now place) }
 {
-    let number = slot - 1;
-    DottedEnd {
-        first: number % 1048576,
-        second: number / 1048576 % 1048576,
-        third: number / 1099511627776 % 1048576,
-        dots: number / 1152921504606846976,
+    match place {
+        None => start,
+        Some(at) => hash_on(hash_on(start, b"."), name_at(file, at)),
     }
-}
-
-// The hash goes on over a dot and the name of this number, where there is one.
-fn hash_after(file: &[u8], start: usize, number: usize) -> usize
-    requires { start < 4294967296 }
-    ensures { (result ≡ hash_from start (after file.now number)) × (result < 4294967296) }
-{
-    if number == 0 {
-        return start;
-    }
-    let hash = hash_on(start, b".");
-    hash_on(hash, name_at(file, number - 1))
 }
 
 // The hash of an end.
-pub fn hash_end(file: &[u8], e: DottedEnd) -> usize
-    ensures { (result ≡ hash_of (end_word file.now e)) × (result < 4294967296) }
+pub fn hash_end(file: &[u8], e: DottedEnd) -> u32
+    ensures { result ≡ hash_of (end_word file.now e) }
 {
     let name = name_at(file, e.first);
     let first = hash_of(end_of(name, e.dots));
@@ -71,35 +55,34 @@ pub fn hash_end(file: &[u8], e: DottedEnd) -> usize
     hash_after(file, second, e.third)
 }
 
-// How many bytes a dot and the name of this number have, where there is one.
-fn length_after(file: &[u8], number: usize) -> usize
-    ensures { result ≡ length (after file.now number) }
+// How many bytes a dot and the name at the place have, where there is one.
+fn length_after(file: &[u8], place: Option<usize>) -> usize
+    ensures { result ≡ length (after file.now place) }
 {
-    if number == 0 {
-        return 0;
+    match place {
+        None => 0,
+        Some(at) => 1 + name_at(file, at).len(),
     }
-    let name = name_at(file, number - 1);
-    1 + name.len()
 }
 
-// The word is a dot and the name of this number, or empty where there is none.
-fn same_after(file: &[u8], number: usize, word: &[u8]) -> bool
-    ensures { result ≡ same word.now (after file.now number) }
+// The word is a dot and the name at the place, or empty where there is none.
+fn same_after(file: &[u8], place: Option<usize>, word: &[u8]) -> bool
+    ensures { result ≡ same word.now (after file.now place) }
 {
-    if number == 0 {
+    let Some(at) = place else {
         return word.len() == 0;
-    }
+    };
     if word.len() == 0 {
         return false;
     }
     if word[0] != b'.' {
         return false;
     }
-    same_at(file, number - 1, &word[1..])
+    same_at(file, at, &word[1..])
 }
 
 // The word is what follows the first name of an end. The last name is compared first.
-fn same_tail(file: &[u8], second: usize, third: usize, word: &[u8]) -> bool
+fn same_tail(file: &[u8], second: Option<usize>, third: Option<usize>, word: &[u8]) -> bool
     ensures { result ≡ same word.now (after file.now second ++ after file.now third) }
 {
     let front = length_after(file, second);
@@ -135,20 +118,15 @@ fn same_places(file: &[u8], a: usize, b: usize) -> bool
     a == b || same_at(file, b, name_at(file, a))
 }
 
-// The names of the two numbers are the same, or there is none for either.
-fn same_numbers(file: &[u8], a: usize, b: usize) -> bool
+// The names at the two places are the same, or there is none at either.
+fn same_names(file: &[u8], a: Option<usize>, b: Option<usize>) -> bool
     ensures { result ≡ true → after file.now a ≡ after file.now b }
 {
-    if a == b {
-        return true;
+    match (a, b) {
+        (None, None) => true,
+        (Some(p), Some(q)) => same_places(file, p, q),
+        _ => false,
     }
-    if a == 0 {
-        return false;
-    }
-    if b == 0 {
-        return false;
-    }
-    same_places(file, a - 1, b - 1)
 }
 
 // The two ends have the same names, and begin after as many dots. (Other names can make the same word: they are not found so.)
@@ -158,8 +136,8 @@ pub fn same_parts(file: &[u8], e: DottedEnd, f: DottedEnd) -> bool
     if e.dots != f.dots {
         return false;
     }
-    if same_numbers(file, e.third, f.third) {
-        if same_numbers(file, e.second, f.second) {
+    if same_names(file, e.third, f.third) {
+        if same_names(file, e.second, f.second) {
             return same_places(file, e.first, f.first);
         }
     }

@@ -1,16 +1,17 @@
 // The targets that a story's entries answer, in a set: the dotted ends of their spellings. A slot is 0, or has an end: 1 + the place of its first
-// name, the numbers of the second and the third, 20 bits each, and above that how many dots of the first name come before the end.
+// name, the numbers of the second and the third, 20 bits each, and above that how many dots of the first name come before the end. The number
+// of a place is 1 + the place, and 0 is the number of none.
 #![tactic(auto)]
 
-ghost use Rattle.std.specs.Prelude.{◌≡◌, [], ◌∷◌, ◌<◌, length, is_err};
+ghost use Rattle.std.specs.Prelude.{Some, ◌≡◌, [], ◌∷◌, ◌<◌, length, is_err};
 ghost use Rattle.names.specs.Words.{one_of};
 ghost use Rattle.sets.specs.Hashes.{hash_of};
 ghost use Rattle.sets.specs.Sets.{held, Empty, Reachable, Looked, Ended};
-ghost use Rattle.targets.specs.Slots.{end_word, end_slots};
-ghost use Rattle.targets.specs.Put.{EndFits, Compared, Probed, Gained};
+ghost use Rattle.targets.specs.Slots.{numbered, InSlot, end_word, end_slots};
+ghost use Rattle.targets.specs.Put.{PlaceFits, EndFits, Compared, Probed, Gained};
 ghost use Rattle.targets.specs.Entries.{PlacesFit, EntryPut};
 
-use ends::{end_in, hash_end, same_end, same_parts};
+use ends::{hash_end, same_end, same_parts};
 use entries::put_all_ends;
 use sets::hashes::{hash_of, home_of};
 use sets::{Full, Look, Sought, walk};
@@ -19,14 +20,66 @@ use symbols::Places;
 pub mod ends;
 pub mod entries;
 
-// An end of a spelling: what follows so many dots of the name at the place `first`, and the names of the two numbers after it, each with a dot
-// before it. The number of a name is 1 + its place, and 0 is the number of none.
+// An end of a spelling: what follows so many dots of the name at the place `first`, and the names at the other two places after it, where there
+// are such, each with a dot before it.
 #[derive(Clone, Copy, PartialEq, Eq)]
 pub struct DottedEnd {
     pub first: usize,
-    pub second: usize,
-    pub third: usize,
+    pub second: Option<usize>,
+    pub third: Option<usize>,
     pub dots: usize,
+}
+
+// The number of a place in a slot.
+fn number_of(place: Option<usize>) -> usize
+    requires { PlaceFits place }
+    ensures { (numbered result ≡ place) × (result < 1048576) }
+{
+    match place {
+        None => 0,
+        Some(at) => at + 1,
+    }
+}
+
+// The place of this number.
+fn numbered(number: usize) -> Option<usize>
+    ensures { result ≡ numbered number }
+{
+    if number == 0 {
+        return None;
+    }
+    Some(number - 1)
+}
+
+impl DottedEnd {
+    // The end that a slot has, or none where it is empty.
+    pub fn in_slot(slot: u64) -> Option<DottedEnd>
+        ensures { InSlot slot result }
+    {
+        if slot == 0 {
+            return None;
+        }
+        let number = slot as usize - 1;
+        Some(DottedEnd {
+            first: number % 1048576,
+            second: numbered(number / 1048576 % 1048576),
+            third: numbered(number / 1099511627776 % 1048576),
+            dots: number / 1152921504606846976,
+        })
+    }
+
+    // The slot that has the end.
+    pub fn slot(self) -> u64
+        requires { EndFits self }
+        ensures { InSlot result (Some self) }
+    {
+        let second = number_of(self.second);
+        let third = number_of(self.third);
+        (1 + (self.first
+            + second * 1048576
+            + third * 1099511627776
+            + self.dots * 1152921504606846976)) as u64
+    }
 }
 
 // Makes every slot of a set empty.
@@ -37,8 +90,8 @@ pub fn clear(set: &mut [u64])
 }
 
 // Goes over the slots of a word with this hash, from its home up to the word or an empty slot.
-fn seek(file: &[u8], set: &[u64], word: &[u8], hash: usize) -> Sought
-    requires hash_value { (hash ≡ hash_of word.now) × (hash < 4294967296) }
+fn seek(file: &[u8], set: &[u64], word: &[u8], hash: u32) -> Sought
+    requires hash_value { hash ≡ hash_of word.now }
     requires reachable { Reachable (end_slots file.now) set.now }
     ensures { Ended (end_slots file.now) set.now word.now result }
 {
@@ -46,13 +99,10 @@ fn seek(file: &[u8], set: &[u64], word: &[u8], hash: usize) -> Sought
         requires { at < length set.now }
         ensures { Looked (end_slots file.entry.now) set.entry.now word.entry.now at result }
     {
-        let slot = set[at] as usize;
-        if slot == 0 {
-            Look::Empty
-        } else if same_end(file, end_in(slot), word) {
-            Look::Met
-        } else {
-            Look::Other
+        match DottedEnd::in_slot(set[at]) {
+            None => Look::Empty,
+            Some(e) if same_end(file, e, word) => Look::Met,
+            Some(_) => Look::Other,
         }
     };
     walk(home_of(hash, set.len()), set.len(), look)
@@ -64,25 +114,22 @@ pub fn has(file: &[u8], set: &[u64], word: &[u8]) -> bool
     ensures { result ≡ one_of word.now (held (end_slots file.now) set.now) }
 {
     let found = seek(file, set, word, hash_of(word));
-    matches!(found, Sought::Found)
+    found == Sought::Found
 }
 
 // Goes over the slots of an end with this hash, from its home up to the same names or an empty slot.
-fn seek_end(file: &[u8], set: &[u64], e: DottedEnd, hash: usize) -> Sought
-    requires { (hash ≡ hash_of (end_word file.now e)) × (hash < 4294967296) }
+fn seek_end(file: &[u8], set: &[u64], e: DottedEnd, hash: u32) -> Sought
+    requires { hash ≡ hash_of (end_word file.now e) }
     ensures { Probed (end_slots file.now) set.now (end_word file.now e) result }
 {
     let look = |at: usize| -> Look
         requires { at < length set.now }
         ensures { Compared (end_slots file.entry.now) set.entry.now (end_word file.entry.now e) at result }
     {
-        let slot = set[at] as usize;
-        if slot == 0 {
-            Look::Empty
-        } else if same_parts(file, e, end_in(slot)) {
-            Look::Met
-        } else {
-            Look::Other
+        match DottedEnd::in_slot(set[at]) {
+            None => Look::Empty,
+            Some(f) if same_parts(file, e, f) => Look::Met,
+            Some(_) => Look::Other,
         }
     };
     walk(home_of(hash, set.len()), set.len(), look)
@@ -99,11 +146,7 @@ pub fn put_end(file: &[u8], e: DottedEnd, set: &mut [u64]) -> Result<(), Full>
     match found {
         Sought::Found => Ok(()),
         Sought::Vacant(at) => {
-            set[at] = (1
-                + (e.first
-                    + e.second * 1048576
-                    + e.third * 1099511627776
-                    + e.dots * 1152921504606846976)) as u64;
+            set[at] = e.slot();
             Ok(())
         }
         Sought::Exhausted => Err(Full),

@@ -12,13 +12,13 @@ ghost use Rattle.validator.specs.Checked.{Reported, Checked};
 use context::BreachAt;
 use context::context::{Tables, validate_story};
 use fields::{Refusal, refusal_number};
-use items::files::KeptFile;
+use items::files::{KeptFile, read_kept};
 use messages::write_message;
 use names::name_at;
 use rules::Rule;
-use story::read;
 use story::trailer::read_trailer;
 use symbols::entries::write_index;
+use symbols::targets::EntryIndex;
 use tables::functions::put_functions;
 use tables::hints::put_hints;
 
@@ -108,8 +108,8 @@ fn check_story(
     message: &mut [u8],
     scratch: Scratch,
 ) -> Verdict
-    requires { (3 * story.now.sections.end ≤ length index.old) × (640 ≤ length message.old) }
-    ensures { Reported (story_report story.now.file.now (story_in story.now.sections story.now.file.now)) index.old message.old (Ok result) index.new message.new }
+    requires { (3 * story.now.source.sections.end ≤ length index.old) × (640 ≤ length message.old) }
+    ensures { let source = story.now.source in Reported (story_report source.file.now (story_in source.sections source.file.now)) index.old message.old (Ok result) index.new message.new }
 {
     let Scratch {
         functions,
@@ -117,22 +117,34 @@ fn check_story(
         declared,
         gathers,
     } = scratch;
-    let file = story.file;
-    let sections = story.sections;
-    let entries = write_index(story, index);
+    let file = story.source.file;
+    let sections = story.source.sections;
+    let count = write_index(story, index);
     put_functions(file, sections, functions);
-    put_hints(file, index, entries, hints);
+    let entries = EntryIndex {
+        file,
+        numbers: index,
+        count,
+    };
+    put_hints(&entries, hints);
     let tables = Tables {
         index,
-        count: entries,
+        count,
         functions,
         hints,
     };
-    let found = validate_story(file, sections, story.kept, tables, declared, gathers);
+    let found = validate_story(
+        file,
+        sections,
+        story.kept.numbers,
+        tables,
+        declared,
+        gathers,
+    );
     let Some(b) = found else {
-        return Verdict::Accepted(entries);
+        return Verdict::Accepted(count);
     };
-    Verdict::Breached(write_breach(file, b, entries, message))
+    Verdict::Breached(write_breach(file, b, count, message))
 }
 
 // The check of a readable file, by the numbers kept of it: refusals 7 and 8, and then its story.
@@ -142,9 +154,9 @@ fn check_readable(
     message: &mut [u8],
     scratch: Scratch,
 ) -> Result<Verdict, CheckRefusal>
-    ensures { Reported (report_at (Ok story.now.sections) story.now.file.now (length index.old) (length message.old)) index.old message.old result index.new message.new }
+    ensures { let source = story.now.source in Reported (report_at (Ok source.sections) source.file.now (length index.old) (length message.old)) index.old message.old result index.new message.new }
 {
-    if index.len() < 3 * story.sections.end {
+    if index.len() < 3 * story.source.sections.end {
         return Err(CheckRefusal::ShortIndex);
     }
     if message.len() < 640 {
@@ -164,13 +176,7 @@ fn check_in(
     requires { length file.now ≤ 1048576 → length file.now ≤ 6 * length items.old }
     ensures { Checked file.now index.old message.old result index.new message.new }
 {
-    let (sections, n, _) = read(file, items)?;
-    let kept = &items[..n];
-    let story = KeptFile {
-        file,
-        sections,
-        kept,
-    };
+    let story = read_kept(file, items)?;
     check_readable(&story, index, message, scratch)
 }
 

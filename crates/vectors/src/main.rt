@@ -4,11 +4,9 @@
 
 use host::read_full;
 use lines::check_line;
+use rules::ABSENT;
 use std::io;
 use validator::Verdict;
-
-// The number for none.
-const NONE: usize = 4294967295;
 
 // What the lent buffers hold before a check.
 const BLANK_NUMBER: u32 = 2779096485;
@@ -42,7 +40,7 @@ struct Buffers<'a> {
 
 // The place that a number says, or none.
 fn place(n: usize) -> Option<usize> {
-    Some(n).filter(|n| *n != NONE)
+    Some(n).filter(|n| *n != ABSENT)
 }
 
 // What a verdict tells.

@@ -1,15 +1,19 @@
 -- `searches::is_called`: the flag and the name of a flow, as `flow_in` has them. Assumes nothing.
-use Rattle.searches.proofs.Called.{called-flow, called-function, called-empty, called-other}
+use Rattle.std.proofs.Common.{sym, ◌∙◌}
+use Rattle.searches.proofs.Called.{called-flow, called-function, called-other}
 use Rattle.searches.proofs.is_called.Goals as goal
+use Rattle.searches.proofs.is_called.Goals.{then-not-function, else-not-function}
 
-pub returns-then-s-eq0 : goal.returns-then-s-eq0
-returns-then-s-eq0 c = called-empty _ _ c.if-function.true c.if-s-eq0.true
+pub returns-then-is_flagged : goal.returns-then-is_flagged
+returns-then-is_flagged c =
+    elim c.if-not-function.branch [
+      | then-not-function w ↦ called-flow _ _ w.if-not-function.true c.same_at.ensures
+      | else-not-function w ↦ called-function _ _ w.if-not-function.false (sym w.is_flagged.ensures ∙ sym w.value-is ∙ c.if-is_flagged.true) c.same_at.ensures
+    ]
 
-pub returns-then-s-ne1 : goal.returns-then-s-ne1
-returns-then-s-ne1 c = called-other _ _ c.if-function.true c.if-s-ne1.true
-
-pub returns-then-function : goal.returns-then-function
-returns-then-function c = called-function _ _ c.if-function.true c.if-s-ne1.false c.same_at.ensures
-
-pub returns : goal.returns
-returns c = called-flow _ _ c.if-function.false c.same_at-2.ensures
+pub returns-else-is_flagged : goal.returns-else-is_flagged
+returns-else-is_flagged c =
+    elim c.if-not-function.branch [
+      | then-not-function w ↦ cc
+      | else-not-function w ↦ rw c.if-is_flagged.false (called-other _ _ w.if-not-function.false (sym w.is_flagged.ensures ∙ sym w.value-is ∙ c.if-is_flagged.false))
+    ]

@@ -10,7 +10,7 @@ returns-in-Found c =
 
 pub returns-in-Vacant : goal.returns-in-Vacant
 returns-in-Vacant c =
-    rw c.number.ensures.0 (vacant-added c.args.file.now c.args.set.now c.args.place (number_of c.args.class) c.name_at-name.result.now c.name_at-name.ensures c.requires.reachable c.seek-found.ensures c.in-Vacant.is c.requires.place_bound (number-bound c.args.class) c.hash_in-hash.ensures.0)
+    vacant-added c.args.file.now c.args.set.now c.args.place (number_of c.args.class) c.name_at-name.result.now c.name_at-name.ensures c.requires.reachable c.seek-found.ensures c.in-Vacant.is c.requires.place_bound (number-bound c.args.class) (c.tag_of.ensures.tag c.name_at-name.result.now c.hash_in-hash.ensures)
 
 pub returns-in-Exhausted : goal.returns-in-Exhausted
 returns-in-Exhausted c =

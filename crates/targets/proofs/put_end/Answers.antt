@@ -8,7 +8,7 @@ returns-in-Found c =
 
 pub returns-in-Vacant : goal.returns-in-Vacant
 returns-in-Vacant c =
-    vacant-gained c.args.file.now c.args.set.now c.args.e c.requires.reachable c.seek_end-found.ensures c.in-Vacant.is c.requires.end_fits
+    vacant-gained c.args.file.now c.args.set.now c.args.e c.requires.reachable c.seek_end-found.ensures c.in-Vacant.is c.slot.ensures
 
 pub returns-in-Exhausted : goal.returns-in-Exhausted
 returns-in-Exhausted c =

@@ -5,5 +5,5 @@ use Rattle.targets.proofs.seek.Goals as goal
 
 pub returns : goal.returns
 returns c =
-    walked-ended (end_slots c.args.file.now) c.args.set.now c.args.word.now (home-of _ _ c.requires.hash_value.0 c.home_of.ensures) c.requires.reachable
+    walked-ended (end_slots c.args.file.now) c.args.set.now c.args.word.now (home-of _ _ c.requires.hash_value c.home_of.ensures) c.requires.reachable
     c.walk.result c.walk.ensures

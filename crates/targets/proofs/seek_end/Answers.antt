@@ -6,4 +6,4 @@ use Rattle.targets.proofs.seek_end.Goals as goal
 
 pub returns : goal.returns
 returns c =
-    walked-probed (end_slots c.args.file.now) c.args.set.now (end_word c.args.file.now c.args.e) (home-of _ _ c.requires.0 c.home_of.ensures) c.walk.result c.walk.ensures
+    walked-probed (end_slots c.args.file.now) c.args.set.now (end_word c.args.file.now c.args.e) (home-of _ _ c.requires c.home_of.ensures) c.walk.result c.walk.ensures

@@ -6,4 +6,4 @@ use Rattle.enumerator.proofs.entries.enumerate.Goals as goal
 
 pub visit_entries-requires : goal.visit_entries-requires
 visit_entries-requires c =
-    story-ready c.args.story.now.sections c.args.story.now.file.now (readable c.args.story.now.file.now c.args.story.now.sections refl c.args.story.now.numbers_kept.read) c.requires.0 c.requires.1
+    story-ready c.args.story.now.source.sections c.args.story.now.source.file.now (readable c.args.story.now.source.file.now c.args.story.now.source.sections refl c.args.story.now.numbers_kept.read) c.requires.0 c.requires.1

@@ -8,5 +8,5 @@ use Rattle.enumerator.proofs.entries.has_target.Goals as goal
 
 pub returns : goal.returns
 returns c =
-    let file = c.args.story.now.file.now in
-    c.enumerate-met.ensures.asked ∙ ap (any (answers c.args.target.now)) (places-spelled c.args.story.now.sections file (readable file c.args.story.now.sections refl c.args.story.now.numbers_kept.read))
+    let file = c.args.story.now.source.file.now in
+    c.enumerate-met.ensures.asked ∙ ap (any (answers c.args.target.now)) (places-spelled c.args.story.now.source.sections file (readable file c.args.story.now.source.sections refl c.args.story.now.numbers_kept.read))

@@ -4,4 +4,4 @@ use Rattle.enumerator.proofs.entries.write_entries.Goals as goal
 
 pub returns : goal.returns
 returns c =
-    entered c.args.story.now.sections c.clear.ensures c.enumerate.ensures
+    entered c.args.story.now.source.sections c.clear.ensures c.enumerate.ensures

@@ -3,33 +3,14 @@ use native.Mathlib.Omega.{arith}
 use Rattle.searches.proofs.Viewed.{piece-within, stitch-view-at, stitch-view-none}
 use Rattle.searches.proofs.views.stitch_view.Goals as goal
 
-pub returns-in_default : goal.returns-in_default
-returns-in_default c =
-    let a = c.args in
-    stitch-view-none a.file.now a.at a.end c.read_list.ensures c.in_default.field-0 c.in_default.is
-
-pub overflow_add-at : goal.overflow_add-at
-overflow_add-at c = omega (
-  arith,
-  (let a = c.args in
-      piece-within a.file.now a.at a.end c.read_list.ensures c.in-Ok.e c.in-Ok.is),
-)
+pub returns-in_err-e : goal.returns-in_err-e
+returns-in_err-e c = rw c.from_residual.ensures (stitch-view-none _ _ _ c.read_list.ensures c.ok.ensures.value c.in_err-e.was)
 
 pub overflow_add-at-2 : goal.overflow_add-at-2
-overflow_add-at-2 c = omega (
-  arith,
-  (let a = c.args in
-      piece-within a.file.now a.at a.end c.read_list.ensures c.in-Ok.e c.in-Ok.is),
-)
+overflow_add-at-2 c = omega (arith, piece-within c.args.file.now c.args.at c.args.end c.read_list.ensures c.ok.ensures.value c.in_ok-e.e c.in_ok-e.was)
 
 pub title_view-requires : goal.title_view-requires
-title_view-requires c = omega (
-  arith,
-  (let a = c.args in
-      piece-within a.file.now a.at a.end c.read_list.ensures c.in-Ok.e c.in-Ok.is),
-)
+title_view-requires c = omega (arith, piece-within c.args.file.now c.args.at c.args.end c.read_list.ensures c.ok.ensures.value c.in_ok-e.e c.in_ok-e.was)
 
 pub returns : goal.returns
-returns c =
-    let a = c.args in
-    rw (stitch-view-at a.file.now a.at a.end c.read_list.ensures c.in-Ok.e c.in-Ok.is) c.title_view.ensures
+returns c = rw (stitch-view-at _ _ _ c.read_list.ensures c.ok.ensures.value c.in_ok-e.e c.in_ok-e.was) c.title_view.ensures

@@ -7,4 +7,4 @@ pub loop-byte-preserved : goal.loop-byte-preserved
 loop-byte-preserved c = hashing-next c.loop-byte.invariant (omega arith)
 
 pub returns : goal.returns
-returns c = (hashing-end c.loop-byte.invariant (omega arith), c.loop-byte.invariant.small)
+returns c = hashing-end c.loop-byte.invariant (omega arith)

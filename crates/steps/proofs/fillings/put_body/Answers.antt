@@ -9,7 +9,7 @@ put_items-own-requires c = empty-without _ 1 c.clear.ensures
 pub returns-then-inner : goal.returns-then-inner
 returns-then-inner c =
     let e = c.between-items.ensures in
-    body-put c.args.kept.file.now c.args.kept.items.now c.args.s c.args.n c.clear.ensures (rw (e.file, e.items) at c.put_items-own.ensures)
+    body-put c.args.kept.file.now c.args.kept.items.now c.args.s c.clear.ensures (rw (e.file, e.items) at c.put_items-own.ensures)
 
 pub returns : goal.returns
-returns c = body-left c.args.kept.file.now c.args.kept.items.now c.args.s c.args.n c.clear.ensures
+returns c = body-left c.args.kept.file.now c.args.kept.items.now c.args.s c.clear.ensures

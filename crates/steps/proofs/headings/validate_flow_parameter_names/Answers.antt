@@ -1,22 +1,30 @@
 -- `steps::headings::validate_flow_parameter_names` meets its contract. Assumes nothing.
-use Rattle.std.proofs.Common.{arith}
-use Rattle.steps.proofs.Naming.{params-start, params-next, params-end, params-past, params-full}
+use mathlib.Core.Path.{subst}
+use Rattle.std.proofs.Common.{List, ℕ}
+use Rattle.searches.specs.NameViews.{names_left}
+use Rattle.searches.proofs.Names.{AllIn, left-in}
+use Rattle.steps.proofs.Naming.{params-start, params-next, params-end, params-full}
 use Rattle.steps.proofs.headings.validate_flow_parameter_names.Goals as goal
 
-pub loop-init : goal.loop-init
-loop-init c = record { near = omega (arith, c.requires.params_in_bounds); left = params-start _ _ _ _ (omega arith) }
+pub loop-name-init : goal.loop-name-init
+loop-name-init c =
+    let names = c.counted-name-items in
+    rw c.into_iter-name-iterator.ensures.into_iter_gives
+    (record {
+      inside = subst (λ (file : List ℕ). AllIn file (names_left names.result)) names.ensures.same_file (left-in names.result);
+      left = params-start _ _ _ _ names.ensures.names;
+    })
 
 pub returns-then-is_full : goal.returns-then-is_full
-returns-then-is_full c = λ s k. params-full c.loop.invariant.left s k c.is_full.ensures c.if-is_full.true
+returns-then-is_full c = λ s k. params-full c.loop-name.invariant.left s k c.is_full.ensures c.if-is_full.true
 
-pub returns-then-file-at : goal.returns-then-file-at
-returns-then-file-at c = λ s k. params-past c.loop.invariant.left s k (omega arith) c.next_run.ensures
-
-pub loop-preserved : goal.loop-preserved
-loop-preserved c = record {
-  near = omega (arith, c.type_inv.file c.loop.at);
-  left = params-next c.loop.invariant.left (omega arith) (omega arith) (rw c.turn_of-turn.ensures at c.visit_name-tally.ensures);
-}
+pub loop-name-preserved : goal.loop-name-preserved
+loop-name-preserved c =
+    let at-name = rw c.in-Some.ensures.steps at c.loop-name.invariant.inside in
+    record {
+      inside = at-name.2;
+      left = params-next c.loop-name.invariant.left c.in-Some.ensures.steps at-name.1 c.visit_name-tally.ensures;
+    }
 
 pub returns : goal.returns
-returns c = λ s k. params-end c.loop.invariant.left s k (omega arith) c.next_run-2.ensures
+returns c = λ s k. params-end c.loop-name.invariant.left s k c.in-None.ensures.steps.0 c.next_run.ensures

@@ -4,7 +4,7 @@ use Rattle.steps.proofs.Naming.{purity-function, purity-none}
 use Rattle.steps.proofs.headings.validate_function_purity.Goals as goal
 
 pub returns-then-h : goal.returns-then-h
-returns-then-h c = record { list_after = λ s f k same. purity-function s f k same c.if-h.true (rw c.turn_of-first.ensures at c.visit_name-after.ensures) ((rw c.turn_of-turn.ensures at c.validate_nodes.ensures.list_after) s k); body_unchanged = (rw c.turn_of-turn.ensures at c.validate_nodes.ensures.body_unchanged) refl }
+returns-then-h c = record { list_after = λ s f k same. purity-function s f k same c.if-h.true c.visit_name-after.ensures (c.validate_nodes.ensures.list_after s k); body_unchanged = c.validate_nodes.ensures.body_unchanged refl }
 
 pub returns : goal.returns
 returns c = record { list_after = λ s f k same. purity-none s f k same c.if-h.false c.next_run.ensures; body_unchanged = refl }

@@ -3,4 +3,4 @@ use Rattle.steps.proofs.Naming.{stitch-name}
 use Rattle.steps.proofs.headings.validate_stitch_name.Goals as goal
 
 pub returns : goal.returns
-returns c = λ s q. stitch-name c.args.h (rw c.turn_of-turn.ensures at c.visit_name.ensures) c.next_run.ensures s q
+returns c = λ s q. stitch-name c.args.h c.visit_name.ensures c.next_run.ensures s q

@@ -4,4 +4,4 @@ use Rattle.steps.proofs.LookBody.{Looked}
 use Rattle.steps.proofs.looks.is_body_clear.Given as goal
 
 abbrev pub invariant-loop-i : goal.invariant-loop-i
-invariant-loop-i l = Looked l.story.view.sections l.story.file.now l.story.kept.now l.at (look_rules l.look.inner l.look.function) l.body l.gathers l.i
+invariant-loop-i l = Looked l.story.view.sections l.story.file.now l.story.kept.now l.site (look_rules l.look.inner l.look.function) l.body l.gathers l.i

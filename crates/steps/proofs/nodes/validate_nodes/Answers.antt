@@ -10,7 +10,7 @@ returns-then-is_full c = record { list_after = λ s h. turning-full c.loop-i.inv
 
 pub invariant_of-items : goal.invariant_of-items
 unfolding part
-invariant_of-items c = record { names_stand = stand-part (kept-names-stand c.args.story.now.targets_ready.read) c.args.turn.scope.first c.args.turn.scope.last }
+invariant_of-items c = record { names_stand = stand-part (kept-names-stand c.args.story.now.targets_ready.read) c.args.turn.site.scope.first c.args.turn.site.scope.last }
 
 pub pass_gather-gathers-requires : goal.pass_gather-gathers-requires
 unfolding part

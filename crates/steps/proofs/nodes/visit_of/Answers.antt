@@ -5,4 +5,4 @@ use Rattle.steps.proofs.nodes.visit_of.Goals as goal
 
 pub returns : goal.returns
 unfolding item_in
-returns c = rw (c.thing_of-thing.ensures.value, c.place_in.ensures.0, c.named_at.ensures.0 [])
+returns c = rw (c.at_item.ensures, c.thing_of.ensures.value, c.place_in.ensures.0, c.named_at.ensures.0 [])

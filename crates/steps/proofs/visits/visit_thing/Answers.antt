@@ -14,7 +14,7 @@ loop-rule-preserved c =
     let kept = c.args.story.now.kept.now in
     let at = c.args.v.at in
     λ w l. rules-next (c.loop-rule.invariant w l) (drop-next _ _ _ c.loop-rule-test.true)
-    (like-broken (known_in c.args.story.now.view.sections file) (here_in file kept at.scope) (before_at file kept at) l _ c.is_broken.ensures)
+    (like-broken (known_in c.args.story.now.view.sections file) (here_in file kept at.site.scope) (before_at file kept at) l _ c.is_broken.ensures)
     (elim c.if-is_broken.branch [ then-is_broken t ↦ rw (t.if-is_broken.true, t.list-is, t.tally-is) t.hear-tally.ensures | else-is_broken e ↦ rw (e.if-is_broken.false, e.list-is, e.tally-is) ])
 
 pub returns : goal.returns

@@ -10,4 +10,4 @@ use Rattle.steps.proofs.visits.visit_thing.Given as goal
 abbrev pub invariant-loop-rule : goal.invariant-loop-rule
 invariant-loop-rule l =
     (w : What) → LikeThing l.fn.story.file.now l.v.at.thing w
-    → RulesLeft (λ r. broken_at l.fn.story.view.sections l.fn.story.file.now l.fn.story.kept.now l.v.at r w) l.v.place l.v.at.scope.flow l.v.named l.rules (heard l.v.tally l.initial.list) (heard l.tally l.list) (drop l.rule-index l.rules)
+    → RulesLeft (λ r. broken_at l.fn.story.view.sections l.fn.story.file.now l.fn.story.kept.now l.v.at r w) l.v.place l.v.at.site.scope.flow l.v.named l.rules (heard l.v.tally l.initial.list) (heard l.tally l.list) (drop l.rule-index l.rules)

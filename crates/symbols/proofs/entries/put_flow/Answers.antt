@@ -19,7 +19,7 @@ put_params-requires g c =
     let ready = c.requires.ready in
     let none = visiting-parts g.met.V.Visit.laws (flow-parts (kept_flow c.args.file.now c.args.kept.numbers.now c.args.v)) ready in
     let title = visiting-many g.met.V.Visit.laws none refl c.visit.ensures in
-    record { params_in_bounds = (c.requires.name_lt_params.1, c.requires.name_lt_params.2.short); ready = visiting-ready g.met.V.Visit.laws title _ _ refl ready }
+    record { short = c.requires.name_lt_params.2.short; ready = visiting-ready g.met.V.Visit.laws title _ _ refl ready }
 
 pub prefix_number-prefix-requires : goal.prefix_number-prefix-requires
 prefix_number-prefix-requires g c = omega (arith, c.requires.name_lt_params.0, c.requires.name_lt_params.1, c.requires.name_lt_params.2.short)

@@ -17,7 +17,7 @@ put_params-requires g c =
     let ready = c.requires.ready in
     let none = visiting-parts g.met.V.Visit.laws (stitch-parts c.args.flow (kept_stitch c.args.file.now c.args.kept.numbers.now c.args.v)) ready in
     let title = visiting-many g.met.V.Visit.laws none refl c.visit.ensures in
-    record { params_in_bounds = (c.requires.name_lt_params.1, c.requires.name_lt_params.2); ready = visiting-ready g.met.V.Visit.laws title _ _ refl ready }
+    record { short = c.requires.name_lt_params.2; ready = visiting-ready g.met.V.Visit.laws title _ _ refl ready }
 
 pub collect_labels_from_nodes-requires : goal.collect_labels_from_nodes-requires
 collect_labels_from_nodes-requires g c =

@@ -4,8 +4,10 @@ use Rattle.symbols.proofs.targets.fit_end.Goals as goal
 pub returns-then-same_name : goal.returns-then-same_name
 returns-then-same_name c = rw (← c.same_name.ensures, c.if-same_name.true)
 
-pub returns-then-ends_dotted : goal.returns-then-ends_dotted
-returns-then-ends_dotted c = rw (← c.same_name.ensures, c.if-same_name.false, ← c.ends_dotted.ensures, c.if-ends_dotted.true)
+pub returns-then-is_some : goal.returns-then-is_some
+returns-then-is_some c =
+    rw (← c.same_name.ensures, c.if-same_name.false, ← c.before_dotted.ensures.ends, ← c.is_some.ensures, c.if-is_some.true)
 
 pub returns : goal.returns
-returns c = rw (← c.same_name.ensures, c.if-same_name.false, ← c.ends_dotted.ensures, c.if-ends_dotted.false)
+returns c =
+    rw (← c.same_name.ensures, c.if-same_name.false, ← c.before_dotted.ensures.ends, ← c.is_some.ensures, c.if-is_some.false)

@@ -7,29 +7,17 @@ use Rattle.tables.proofs.functions.put_flow.Goals as goal
 
 pub offset_bounds-table-slot : goal.offset_bounds-table-slot
 offset_bounds-table-slot c =
-    let seek = c.seek_name-found in
+    let seek = c.seek_name in
     let i = vacant-inside c.args.file.now c.args.table.now _ c.requires.0 seek.ensures c.in-Vacant.is in search (rules, i)
 
 pub bounds-table-slot : goal.bounds-table-slot
 bounds-table-slot c =
-    let seek = c.seek_name-found in
+    let seek = c.seek_name in
     let i = vacant-inside c.args.file.now c.args.table.now _ c.requires.0 seek.ensures c.in-Vacant.is in omega arith
-
-pub returns-in-Found : goal.returns-in-Found
-returns-in-Found c =
-    let if1 = c.if-v in
-    let name-at = c.name_at in
-    flow-written c.args.file.now c.args.v c.args.table.now c.seek_name-found.ensures c.in-Found.is if1.true name-at.ensures
 
 pub returns-in-Vacant : goal.returns-in-Vacant
 returns-in-Vacant c =
     let if1 = c.if-v in
     let name-at = c.name_at in
-    let seek = c.seek_name-found in
+    let seek = c.seek_name in
     flow-written c.args.file.now c.args.v c.args.table.now seek.ensures c.in-Vacant.is if1.true name-at.ensures
-
-pub returns-in-Exhausted : goal.returns-in-Exhausted
-returns-in-Exhausted c =
-    let if1 = c.if-v in
-    let name-at = c.name_at in
-    flow-written c.args.file.now c.args.v c.args.table.now c.seek_name-found.ensures c.in-Exhausted.is if1.true name-at.ensures

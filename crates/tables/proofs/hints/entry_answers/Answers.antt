@@ -4,9 +4,9 @@ use native.Mathlib.Omega.{arith}
 use Rattle.tables.proofs.Answering.{entry-answered, not-answered}
 use Rattle.tables.proofs.hints.entry_answers.Goals as goal
 
-pub returns-then-k-min : goal.returns-then-k-min
-returns-then-k-min c =
-    entry-answered _ _ _ c.args.index.now c.args.k (omega arith) (omega arith) c.entry_at.ensures c.is_answer.ensures
+pub returns-then-k-len : goal.returns-then-k-len
+returns-then-k-len c =
+    entry-answered _ _ _ c.args.index.now.numbers.now c.args.k (omega arith) (omega arith) c.entry_at.ensures c.is_answer.ensures
 
-pub returns-else-k-min : goal.returns-else-k-min
-returns-else-k-min c = rw (le-ltb _ _ c.if-k-min.false) not-answered
+pub returns-else-k-len : goal.returns-else-k-len
+returns-else-k-len c = rw (le-ltb _ _ c.if-k-len.false) not-answered

@@ -2,11 +2,8 @@
 use Rattle.targets.proofs.Comparing.{hash-none, hash-some}
 use Rattle.targets.proofs.ends.hash_after.Goals as goal
 
-pub returns-then-number-eq0 : goal.returns-then-number-eq0
-returns-then-number-eq0 c = (hash-none c.args.file.now c.args.start c.if-number-eq0.true, c.requires)
+pub returns-in-None : goal.returns-in-None
+returns-in-None c = hash-none c.args.file.now c.in-None.is c.args.start
 
-pub returns : goal.returns
-returns c = (
-  hash-some c.args.file.now c.args.start c.args.number c.if-number-eq0.false c.hash_on-hash.ensures.0 c.name_at.ensures c.hash_on.ensures.0,
-  c.hash_on.ensures.1,
-)
+pub returns-in-Some : goal.returns-in-Some
+returns-in-Some c = hash-some c.args.file.now c.in-Some.is c.args.start c.hash_on.ensures c.name_at.ensures c.hash_on-in-Some.ensures

@@ -2,8 +2,8 @@
 use Rattle.targets.proofs.Filling.{from-none, from_some}
 use Rattle.targets.proofs.entries.put_from.Goals as goal
 
-pub returns-then-at-eq-ABSENT : goal.returns-then-at-eq-ABSENT
-returns-then-at-eq-ABSENT c = from-none c.args.file.now _ c.if-at-eq-ABSENT.true c.requires.reachable
+pub returns-in-None : goal.returns-in-None
+returns-in-None c = from-none c.args.file.now _ c.in-None.is c.requires.reachable
 
-pub returns : goal.returns
-returns c = from_some c.args.file.now _ c.if-at-eq-ABSENT.false c.put_ends.ensures
+pub returns-in-Some : goal.returns-in-Some
+returns-in-Some c = from_some c.args.file.now _ c.in-Some.is c.put_ends.ensures

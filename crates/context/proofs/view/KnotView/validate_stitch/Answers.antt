@@ -12,7 +12,10 @@ pub invariant_of-body : goal.invariant_of-body
 invariant_of-body c = record { ready = rw c.stitch_scope-scope.ensures (stitch_ready _ _ _ c.args.self.now.flow_ready _ c.requires) }
 
 pub invariant_of-place : goal.invariant_of-place
-invariant_of-place c = record { covers = rw c.stitch_scope-scope.ensures (rw c.args.self.now.own at c.args.self.now.knot.place.covers) }
+invariant_of-place c = record {
+  names_covered = rw c.stitch_scope-scope.ensures (rw c.args.self.now.own at c.args.self.now.knot.place.names_covered);
+  labels_covered = rw c.stitch_scope-scope.ensures (rw c.args.self.now.own at c.args.self.now.knot.place.labels_covered);
+}
 
 pub returns : goal.returns
 returns c =

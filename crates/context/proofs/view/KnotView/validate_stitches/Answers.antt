@@ -1,7 +1,7 @@
 -- `validate_stitches`. The loop's invariant: nothing is found before the stitches from the place on, which can be read and are kept. Assumes nothing.
 use mathlib.Core.Path.{refl, sym, ◌∙◌}
-use Rattle.checks.proofs.Stitches.{stitches-after, stitches-fewer}
-use Rattle.context.proofs.Places.{no-stitches, stitch-seen-ready, stitches-first, stitches-rest}
+use Rattle.items.proofs.StitchesLeft.{no-stitches, stitches-after, stitches-fewer}
+use Rattle.context.proofs.Places.{stitch-seen-ready, stitches-first, stitches-rest}
 use Rattle.context.proofs.Runs.{each_none, each-found, each-passed}
 use Rattle.context.proofs.view.KnotView.validate_stitches.Goals as goal
 

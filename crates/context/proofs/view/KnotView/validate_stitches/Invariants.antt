@@ -3,8 +3,8 @@ use mathlib.Core.Path.{◌≡◌}
 use Prim.Native.Nat.{◌-◌}
 use Rattle.names.specs.Words.{each}
 use Rattle.items.specs.Bodies.{kept_story, kept_stitches, kept_flow, StitchesKept}
+use Rattle.items.specs.Stitches.{StitchesReady}
 use Rattle.rules.specs.Steps.{stitch_runs}
-use Rattle.checks.specs.Context.{StitchesReady}
 use Rattle.context.specs.Found.{found_runs}
 use Rattle.context.proofs.view.KnotView.validate_stitches.Given as goal
 

@@ -6,7 +6,7 @@ use Rattle.steps.proofs.Stories.{stitch-heading, stitch-course, stitch-scope-is,
 use Rattle.steps.proofs.context.FilledKnot.validate_stitch.Goals as goal
 
 pub validate_stitch_name-first-requires : goal.validate_stitch_name-first-requires
-validate_stitch_name-first-requires c = stitch-heading c.args.self.now.ready c.requires c.stitch_scope-scope.ensures _ _ _
+validate_stitch_name-first-requires c = stitch-heading c.args.self.now.ready c.requires c.stitch_scope-scope.ensures
 
 pub invariant_of-own : goal.invariant_of-own
 invariant_of-own c = record { ready = stitch-course c.args.self.now.ready c.requires c.stitch_scope-scope.ensures _ _ _; gathers_last = rw c.steps.ensures (along-last along.Stitch) }

@@ -1,7 +1,7 @@
 -- `steps::context::FilledKnot::validate_stitches` meets its contract. The loop's invariant: what is to be heard is what the stitches that are left find. Assumes nothing.
 use mathlib.Core.Path.{sym, ◌∙◌}
 use Rattle.steps.proofs.Runs.{through-end, through-full}
-use Rattle.steps.proofs.Seen.{no-stitches, stitches-fewer}
+use Rattle.items.proofs.StitchesLeft.{no-stitches, stitches-fewer}
 use Rattle.steps.proofs.Stories.{stitching-ready, stitching-onward, stitching-next}
 use Rattle.steps.proofs.context.FilledKnot.validate_stitches.Goals as goal
 

@@ -1,7 +1,0 @@
--- `symbols::targets::find_ending` meets its contract: a fit by its ending is a dot and the word at the end. Assumes nothing.
-use mathlib.Core.Path.{◌∙◌}
-use Rattle.symbols.proofs.Searched.{sought-ending, first-same}
-use Rattle.symbols.proofs.targets.find_ending.Goals as goal
-
-pub returns : goal.returns
-returns c = c.find_entry.ensures ∙ first-same _ _ (sought-ending c.args.target.now) _ _

@@ -1,7 +1,0 @@
--- `symbols::targets::find_exact` meets its contract: an exact fit is the same word. Assumes nothing.
-use mathlib.Core.Path.{◌∙◌}
-use Rattle.symbols.proofs.Searched.{sought-exact, first-same}
-use Rattle.symbols.proofs.targets.find_exact.Goals as goal
-
-pub returns : goal.returns
-returns c = c.find_entry.ensures ∙ first-same _ _ (sought-exact c.args.target.now) _ _
