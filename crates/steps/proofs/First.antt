@@ -11,12 +11,12 @@ use Rattle.names.specs.Words.{each}
 use Rattle.story.specs.Story.{Story}
 use Rattle.rules.specs.Steps.{Run, numbered, runs, Breach, in_run, breaches, verdict, first}
 use Rattle.std.specs.Prelude as core
-use Rattle.std.specs.Prelude.{None, Some, IsSome}
+use Rattle.std.specs.Prelude.{None, Some}
 use Rattle.steps.specs.declared.Tally.{Tally}
 use Rattle.steps.specs.declared.Last.{Last}
 use Rattle.steps.specs.Heard.{fresh, Heard, heard, full, hear, hear_all, pass, run_now, hear_runs, Told, told_of, last_of, last_told, told, told_verdict}
 use Rattle.steps.proofs.Hearing.{passed-full, passed-room, hear-room, hear-full}
-use Rattle.steps.proofs.Runs.{runs-full, renumber, run-renumbered, Within, runs-within}
+use Rattle.steps.proofs.Runs.{runs-full, renumber, run-renumbered, runs-within}
 
 -- 1. Before the first breach, at a limit of one
 
@@ -49,7 +49,7 @@ module _ {h : Heard} (w : Waiting h) where
     unfolding hear_all
     all_one = hear-full (hear h b) one bs
 
-    told-one : told (hear h b).tally ≡ some (told_of b)
+    told-one : told (hear h b).tally ≡ some (some (told_of b))
     unfolding told
     told-one = rw (hear-room h open-yet b, ne_eqb (h.tally.count + 1) 0 (λ e. omega arith))
 
@@ -95,17 +95,12 @@ told_back : (o : core.Option Last) (b : Breach) → last_told o ≡ some (told_o
 told_back None b e = absurd (none-ne-some (told_of b) e)
 told_back (Some l) b e = ap (λ (x : Told). Some (record { rule = x.rule; place = x.place; names = record { first = x.first; second = x.second } })) (some-injective _ _ e)
 
--- something is told of a last breach that is there
-told_some : (o : core.Option Last) → IsSome o → last_told o ≡ none → ⊥
-told_some None h e = cc
-told_some (Some l) h e = some-ne-none _ e
-
-module _ (t : Tally) (there : (t.count ≡ 0 → ⊥) → IsSome t.last) where
+module _ (t : Tally) where
   nothing-told : t.count ≡ 0 → told t ≡ none
   unfolding told
   nothing-told e = rw (eq-eqb t.count 0 e)
 
-  is_told : (t.count ≡ 0 → ⊥) → told t ≡ last_told t.last
+  is_told : (t.count ≡ 0 → ⊥) → told t ≡ some (last_told t.last)
   unfolding told
   is_told e = rw (ne_eqb t.count 0 e)
 
@@ -115,40 +110,36 @@ module _ (t : Tally) (there : (t.count ≡ 0 → ⊥) → IsSome t.last) where
     where
       by-test : (b : Bool) → eqb t.count 0 ≡ b → t.count ≡ 0
       by-test true f = eqb-true t.count 0 f
-      by-test false f = let n = eqb-false t.count 0 f in absurd (told_some t.last (there n) (sym (is_told n) ∙ e))
+      by-test false f = absurd (some-ne-none _ (sym (is_told (eqb-false t.count 0 f)) ∙ e))
 
-  one-heard : (b : Breach) → told t ≡ some (told_of b) → (t.count ≡ 0 → ⊥) × LastHeard t b
+  one-heard : (b : Breach) → told t ≡ some (some (told_of b)) → (t.count ≡ 0 → ⊥) × LastHeard t b
   one-heard b e =
-      let n : t.count ≡ 0 → ⊥ = λ z. none-ne-some (told_of b) (sym (nothing-told z) ∙ e) in
-      (n, record { last = told_back t.last b (sym (is_told n) ∙ e) })
+      let n : t.count ≡ 0 → ⊥ = λ z. none-ne-some (some (told_of b)) (sym (nothing-told z) ∙ e) in
+      (n, record { last = told_back t.last b (some-injective _ _ (sym (is_told n) ∙ e)) })
 
-pub tells : (t : Tally) → ((t.count ≡ 0 → ⊥) → IsSome t.last) → (v : Option Breach) → told t ≡ told_verdict v → Tells t v
+pub tells : (t : Tally) (v : Option Breach) → told t ≡ told_verdict v → Tells t v
 unfolding told_verdict
-tells t there none e = record {
+tells t none e = record {
   nothing = λ z. refl;
-  accepted = λ z. none-heard t there e;
-  something = λ n. absurd (n (none-heard t there e));
+  accepted = λ z. none-heard t e;
+  something = λ n. absurd (n (none-heard t e));
   broken = λ b z. absurd (none-ne-some b z);
 }
-tells t there (some b) e = record {
-  nothing = λ z. absurd ((one-heard t there b e).0 z);
+tells t (some b) e = record {
+  nothing = λ z. absurd ((one-heard t b e).0 z);
   accepted = λ z. absurd (some-ne-none b z);
   something = λ n. (b, refl);
-  broken = λ c z. let same = some-injective b c z in subst (λ (d : Breach). (t.count ≡ 0 → ⊥) × LastHeard t d) same (one-heard t there b e);
+  broken = λ c z. let same = some-injective b c z in subst (λ (d : Breach). (t.count ≡ 0 → ⊥) × LastHeard t d) same (one-heard t b e);
 }
-
--- at a limit of one at most one is heard
-first-within : (s : Story) (list : List ℕ) → Within 1 (hear_runs s (heard (fresh 1) list) (runs s))
-first-within s list = runs-within s (heard (fresh 1) list) (record { limit_is = refl; below = omega arith; last = λ n. absurd (n refl) }) (runs s)
 
 -- THE CHECK: what the runs of a story tell at a limit of one
 pub heard-tells : (s : Story) (list : List ℕ) → Tells (hear_runs s (heard (fresh 1) list) (runs s)).tally (verdict s)
-heard-tells s list = tells (hear_runs s (heard (fresh 1) list) (runs s)).tally (first-within s list).last (verdict s) (heard-first s list)
+heard-tells s list = tells (hear_runs s (heard (fresh 1) list) (runs s)).tally (verdict s) (heard-first s list)
 
 -- it has heard one breach where the story has one
 pub heard-one : (s : Story) (list : List ℕ) (b : Breach) → verdict s ≡ some b → (hear_runs s (heard (fresh 1) list) (runs s)).tally.count ≡ 1
 heard-one s list b e =
-    let w = first-within s list in
+    let w = runs-within s (heard (fresh 1) list) (record { limit_is = refl; below = omega arith }) (runs s) in
     one-of-one _ w.below ((heard-tells s list).broken b e).0
   where
     one-of-one : (n : ℕ) → n ≤ 1 → (n ≡ 0 → ⊥) → n ≡ 1

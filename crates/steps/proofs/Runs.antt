@@ -155,11 +155,10 @@ runs-all s h (u ∷ us) fits =
 
 -- 5. The limit
 
--- at most so many breaches may be heard, and no more were; the last is there where one was
+-- at most so many breaches may be heard, and no more were
 pub record Within (limit : ℕ) (h : Heard) : Type 0 where
   pub limit_is : h.tally.limit ≡ limit
   pub below : h.tally.count ≤ limit
-  pub last : (h.tally.count ≡ 0 → ⊥) → IsSome h.tally.last
 
 module _ {limit : ℕ} where
   hear-within : (h : Heard) → Within limit h → (b : Breach) → Within limit (hear h b)
@@ -167,7 +166,7 @@ module _ {limit : ℕ} where
     where
       by-test : (f : Bool) → full h ≡ f → Within limit (hear h b)
       by-test true e = rw (hear-none h e b) w
-      by-test false e = rw (hear-room h e b) (record { limit_is = w.limit_is; below = omega (arith, w.limit_is, leb-false h.tally.limit h.tally.count e); last = λ z. refl })
+      by-test false e = rw (hear-room h e b) (record { limit_is = w.limit_is; below = omega (arith, w.limit_is, leb-false h.tally.limit h.tally.count e) })
 
   all-within : (h : Heard) → Within limit h → (bs : List Breach) → Within limit (hear_all h bs)
   unfolding hear_all
@@ -179,7 +178,7 @@ module _ {limit : ℕ} where
     where
       by-test : (f : Bool) → full h ≡ f → Within limit (pass n h)
       by-test true e = rw (passed-full h.tally e n) w
-      by-test false e = rw (passed-room h.tally e n) (record { limit_is = w.limit_is; below = w.below; last = w.last })
+      by-test false e = rw (passed-room h.tally e n) (record { limit_is = w.limit_is; below = w.below })
 
   pub runs-within : (s : Story) (h : Heard) → Within limit h → (us : List Run) → Within limit (hear_runs s h us)
   unfolding hear_runs
@@ -187,3 +186,35 @@ module _ {limit : ℕ} where
   runs-within s h w (u ∷ us) =
       let bs = in_run s (run_now h u) in
       runs-within s (pass 1 (hear_all h bs)) (pass-within 1 (hear_all h bs) (all-within h w bs)) us
+
+-- 6. The last breach
+
+-- the tally has the last breach where one was heard
+pub record HasLast (h : Heard) : Type 0 where
+  pub last : (h.tally.count ≡ 0 → ⊥) → IsSome h.tally.last
+
+hear-last : (h : Heard) → HasLast h → (b : Breach) → HasLast (hear h b)
+hear-last h l b = by-test (full h) refl
+  where
+    by-test : (f : Bool) → full h ≡ f → HasLast (hear h b)
+    by-test true e = rw (hear-none h e b) l
+    by-test false e = rw (hear-room h e b) (record { last = λ z. refl })
+
+all-last : (h : Heard) → HasLast h → (bs : List Breach) → HasLast (hear_all h bs)
+unfolding hear_all
+all-last h l [] = l
+all-last h l (b ∷ bs) = all-last (hear h b) (hear-last h l b) bs
+
+pass-last : (n : ℕ) (h : Heard) → HasLast h → HasLast (pass n h)
+pass-last n h l = by-test (full h) refl
+  where
+    by-test : (f : Bool) → full h ≡ f → HasLast (pass n h)
+    by-test true e = rw (passed-full h.tally e n) l
+    by-test false e = rw (passed-room h.tally e n) (record { last = l.last })
+
+pub runs-last : (s : Story) (h : Heard) → HasLast h → (us : List Run) → HasLast (hear_runs s h us)
+unfolding hear_runs
+runs-last s h l [] = l
+runs-last s h l (u ∷ us) =
+    let bs = in_run s (run_now h u) in
+    runs-last s (pass 1 (hear_all h bs)) (pass-last 1 (hear_all h bs) (all-last h l bs)) us

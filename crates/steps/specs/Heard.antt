@@ -135,11 +135,11 @@ abbrev pub last_told : core.Option Last → Option Told
 last_told None = none
 last_told (Some l) = some (record { rule = l.rule; place = l.place; first = l.names.first; second = l.names.second })
 
--- the last breach of a tally; none where nothing was heard
-unfoldable pub told : Tally → Option Told
-told t = pick (eqb t.count 0) none (last_told t.last)
+-- the last breach of a tally, where it has one; none exactly where nothing was heard
+unfoldable pub told : Tally → Option (Option Told)
+told t = pick (eqb t.count 0) none (some (last_told t.last))
 
 -- a verdict as told
-unfoldable pub told_verdict : Option Breach → Option Told
+unfoldable pub told_verdict : Option Breach → Option (Option Told)
 told_verdict none = none
-told_verdict (some b) = some (told_of b)
+told_verdict (some b) = some (some (told_of b))
