@@ -1,6 +1,6 @@
 // What a thing is: by its sort.
-ghost use Rattle.std.specs.Prelude.{◌≡◌, List, ℕ};
-ghost use Rattle.records.specs.Items.{What, same_kind};
+ghost use Rattle.std.specs.Prelude.{◌≡◌, List, ℕ, ◌==◌};
+ghost use Rattle.records.specs.Items.{What, same_kind, code};
 ghost use Rattle.rules.specs.Rules.{target};
 ghost use Rattle.broken.specs.Things.{ThingIs};
 
@@ -14,6 +14,14 @@ impl Thing {
         ensures { result ≡ same_kind sort self.now.sort }
     {
         sort == self.sort
+    }
+
+    // The thing is of the sort of the number.
+    #[tactic(auto, using(records::proofs::Codes::tag_code))]
+    pub fn has_sort_number(&self, number: u8) -> bool
+        ensures { result ≡ (number == code self.now.sort) }
+    {
+        number == self.sort as u8
     }
 
     // The thing has a target: it is a divert, a tunnel or a thread.
