@@ -34,13 +34,13 @@ use Rattle.steps.proofs.Clear.{both, over-clear}
 -- 1. The steps of a course
 
 -- the first of them, and then the others
-runs-split : (s : Story) (h : Heard) (scope : rules.Scope) (items : List Item) {all more : List Step} {step : Step} → all ≡ step ∷ more
+pub runs-split : (s : Story) (h : Heard) (scope : rules.Scope) (items : List Item) {all more : List Step} {step : Step} → all ≡ step ∷ more
     → hear_runs s h (over scope items all) ≡ hear_runs s (hear_runs s h (run scope items step ∷ [])) (over scope items more)
 unfolding hear_runs over
 runs-split s h scope items e = rw e
 
 -- no step is left
-runs_none : (s : Story) (h : Heard) (scope : rules.Scope) (items : List Item) {left : List Step} → left ≡ [] → hear_runs s h (over scope items left) ≡ h
+pub runs_none : (s : Story) (h : Heard) (scope : rules.Scope) (items : List Item) {left : List Step} → left ≡ [] → hear_runs s h (over scope items left) ≡ h
 unfolding hear_runs over
 runs_none s h scope items e = rw e
 
@@ -66,7 +66,7 @@ pub record Coursing (sections : Sections) (file kept : List ℕ) (c : Course) (s
       ≡ hear_runs (kept_story sections file) (heard tally list) (over s (items_at file (body_run kept c.site.scope)) (map step_of (drop i steps)))
 
 -- the knot's set is as filled, whatever the rests of a body
-knot-again : {file kept : List ℕ} {s : Site} {r : Rests} {knot : List ℕ} → r.labels ≡ s.rests.labels → r.temps ≡ s.rests.temps → KnotSet file kept s knot → KnotSet file kept (with_rests s r) knot
+pub knot-again : {file kept : List ℕ} {s : Site} {r : Rests} {knot : List ℕ} → r.labels ≡ s.rests.labels → r.temps ≡ s.rests.temps → KnotSet file kept s knot → KnotSet file kept (with_rests s r) knot
 knot-again e f k = record { labels = rw e k.labels; temps = rw f k.temps }
 
 module _ {file kept : List ℕ} {c : Course} {rests : Rests} {body : List ℕ} (put : BodyPut file kept c.site rests body) where

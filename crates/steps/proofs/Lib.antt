@@ -19,6 +19,8 @@ pub mod LookBody
 pub mod Naming
 pub mod Coursing
 pub mod Idle
+pub mod Table
+pub mod Numbered
 pub mod Stories
 pub mod Knots
 pub mod Roots

@@ -1,5 +1,5 @@
--- Inner contract. The code's steps and courses, as the table of steps has them. Assumes nothing.
-use Rattle.std.specs.Prelude.{Bool, true, false, not, ◌&&◌, List, [], ◌∷◌}
+-- Inner contract. The code's steps and courses, as the table of steps has them, and the steps by their numbers. Assumes nothing.
+use Rattle.std.specs.Prelude.{ℕ, Bool, true, false, not, ◌&&◌, List, [], ◌∷◌, slice_index_or}
 use Rattle.rules.specs.Steps.{Step, s1, s2, s3, s4, s5, s6, s7, s8, s9, s10, s11, s12, s13, s14, s15, s16, s17, s18, s19, s20, root_steps, flow_steps, stitch_steps}
 use Rattle.steps.specs.declared.brackets.Step as code
 use Rattle.steps.specs.declared.brackets.Step.TheVariants.{RootTemps, RootTargets, RootCalls, RootChoices, Purity, Parameters, Temps, Targets, Calls, Choices, VariableDiverts, StitchName, StitchTemps, StitchTargets, StitchCalls, StitchVariableDiverts, StitchVariables, StitchGathers, Gathers, RootGathers}
@@ -28,6 +28,14 @@ step_of StitchVariables = s17
 step_of StitchGathers = s18
 step_of Gathers = s19
 step_of RootGathers = s20
+
+-- the steps in the order of their numbers, from 1 on; 0 is no step's number
+abbrev pub steps : List Step
+steps = s20 ∷ s1 ∷ s2 ∷ s3 ∷ s4 ∷ s5 ∷ s6 ∷ s7 ∷ s8 ∷ s9 ∷ s10 ∷ s11 ∷ s12 ∷ s13 ∷ s14 ∷ s15 ∷ s16 ∷ s17 ∷ s18 ∷ s19 ∷ s20 ∷ []
+
+-- the step of the number; for a number that no step has, the last one
+unfoldable pub step_at : ℕ → Step
+step_at n = slice_index_or steps n s20
 
 -- a step on gathers
 abbrev pub on_gathers : Step → Bool

@@ -13,7 +13,8 @@ use Rattle.steps.specs.declared.Tally.{Tally}
 use Rattle.steps.specs.declared.visits.Visit.{Visit}
 use Rattle.steps.specs.declared.brackets.Step.{Step}
 use Rattle.steps.specs.declared.nodes.Turn.{Turn}
-use Rattle.steps.specs.Brackets.{step_of}
+use Rattle.steps.specs.declared.nodes.NumberedTurn.{NumberedTurn}
+use Rattle.steps.specs.Brackets.{step_of, step_at}
 use Rattle.steps.specs.Visits.{thing_of, at_item}
 
 -- the code's numbers stand for the scope of the rules: the same names, and the flow's name at the same place
@@ -32,6 +33,14 @@ turn_items file kept t = items_at file (body_run kept t.site.scope)
 -- the step as run
 abbrev pub turn_run : List ℕ → List ℕ → Turn → rules.Scope → Run
 turn_run file kept t s = run s (turn_items file kept t) (step_of t.step)
+
+-- the step of the number at the site, after what was heard
+abbrev pub numbered_at : Site → ℕ → Tally → NumberedTurn
+numbered_at s step tally = record { site = s; step = step; tally = tally }
+
+-- the step of the number as run
+abbrev pub numbered_run : List ℕ → List ℕ → NumberedTurn → rules.Scope → Run
+numbered_run file kept t s = run s (items_at file (body_run kept t.site.scope)) (step_at t.step)
 
 -- the visit of the kept item, before which so many stand
 abbrev pub visit_of : Turn → Tally → ℕ → ℕ → ℕ → Visit

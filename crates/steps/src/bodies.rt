@@ -10,13 +10,13 @@ ghost use Rattle.steps.specs.Clear.{clear_along, among};
 ghost use Rattle.steps.specs.Looks.{look_rules};
 ghost use Rattle.steps.specs.Turns.{ScopeIs};
 ghost use Rattle.steps.specs.Brackets.{step_of, gathers_last};
-ghost use Rattle.steps.specs.Courses.{own_course, CourseReady};
+ghost use Rattle.steps.specs.Courses.{own_course, CourseReady, steps_from, NumberedReady};
 
 use crate::Tally;
 use crate::brackets::Step;
 use crate::fillings::put_body;
 use crate::looks::{Look, is_body_clear};
-use crate::nodes::{Turn, validate_nodes};
+use crate::nodes::{NumberedTurn, Turn, validate_nodes, validate_nodes_by_number};
 use broken::Site;
 use broken::asked::Story;
 use sets::members::NamedItems;
@@ -120,4 +120,69 @@ impl Body<'_, '_> {
         }
         self.validate_steps(body, list)
     }
+}
+
+// A course with the steps along it by their numbers: so many, from the first on.
+#[derive(Clone, Copy)]
+pub struct NumberedCourse {
+    pub course: Course,
+    pub first: u8,
+    pub many: u8,
+}
+
+// THE STEPS of the numbers along the body's items, one after the other, until it is full. A step on gathers is the last, so the body's set is filled
+// once.
+pub fn validate_steps_by_number(
+    story: &Story<'_>,
+    knot: &[u32],
+    body: &mut [u32],
+    list: &mut [u32],
+    c: NumberedCourse,
+) -> Tally
+    requires { NumberedReady story.now.file.now story.now.kept.now knot.now c }
+    ensures { (s : rules.Scope) → ScopeIs story.now.file.now story.now.kept.now story.now.view.sections c.course.site.scope s → heard result list.new ≡ hear_runs (kept_story story.now.view.sections story.now.file.now) (heard c.course.tally list.old) (over s (items_at story.now.file.now (body_run story.now.kept.now c.course.site.scope)) (steps_from c.first c.many)) }
+{
+    let course = c.course;
+    let rests = put_body(story.items(), course.site, course.inner, body);
+    let site = Site {
+        rests,
+        ..course.site
+    };
+    let mut tally = course.tally;
+    for i in 0..c.many {
+        if tally.is_full() {
+            return tally;
+        }
+        let turn = NumberedTurn {
+            site,
+            step: c.first + i,
+            tally,
+        };
+        tally = validate_nodes_by_number(story, knot, body, list, turn);
+    }
+    tally
+}
+
+// THE STEPS of the numbers along the body's items, those that find nothing by one look, which tests all their rules.
+pub fn validate_body_by_number(
+    story: &Story<'_>,
+    knot: &[u32],
+    body: &mut [u32],
+    list: &mut [u32],
+    c: NumberedCourse,
+) -> Tally
+    requires course_ready { NumberedReady story.now.file.now story.now.kept.now knot.now c }
+    requires rules_tested { among (each bracket (steps_from c.first c.many)) (look_rules c.course.inner c.course.function) ≡ true }
+    ensures { (s : rules.Scope) → ScopeIs story.now.file.now story.now.kept.now story.now.view.sections c.course.site.scope s → heard result list.new ≡ hear_runs (kept_story story.now.view.sections story.now.file.now) (heard c.course.tally list.old) (over s (items_at story.now.file.now (body_run story.now.kept.now c.course.site.scope)) (steps_from c.first c.many)) }
+{
+    let own = Body {
+        story,
+        knot,
+        course: c.course,
+        steps: &[],
+    };
+    if own.is_clear(body) {
+        return c.course.tally.pass_runs(usize::from(c.many));
+    }
+    validate_steps_by_number(story, knot, body, list, c)
 }

@@ -1,7 +1,7 @@
 // The twenty steps with their rules, and the courses: the steps that run along one body.
 ghost use Rattle.std.specs.Prelude.{◌≡◌, map, length};
 ghost use Rattle.rules.specs.Steps.{bracket};
-ghost use Rattle.steps.specs.Brackets.{step_of, on_gathers, steps_along};
+ghost use Rattle.steps.specs.Brackets.{step_of, step_at, on_gathers, steps_along};
 
 use rules::Rule;
 
@@ -32,6 +32,35 @@ pub enum Step {
 }
 
 impl Step {
+    // The step of the number, 1 to 20; of any other number the last step.
+    #[tactic(auto, unfolding(crate::specs::Brackets::step_at))]
+    pub fn of(number: u8) -> Step
+        ensures { step_of result ≡ step_at number }
+    {
+        match number {
+            1 => Step::RootTemps,
+            2 => Step::RootTargets,
+            3 => Step::RootCalls,
+            4 => Step::RootChoices,
+            5 => Step::Purity,
+            6 => Step::Parameters,
+            7 => Step::Temps,
+            8 => Step::Targets,
+            9 => Step::Calls,
+            10 => Step::Choices,
+            11 => Step::VariableDiverts,
+            12 => Step::StitchName,
+            13 => Step::StitchTemps,
+            14 => Step::StitchTargets,
+            15 => Step::StitchCalls,
+            16 => Step::StitchVariableDiverts,
+            17 => Step::StitchVariables,
+            18 => Step::StitchGathers,
+            19 => Step::Gathers,
+            _ => Step::RootGathers,
+        }
+    }
+
     // THE TABLE: the rules of the step.
     pub fn rules(self) -> &'static [Rule]
         ensures { result.now ≡ bracket (step_of self) }

@@ -7,13 +7,13 @@ ghost use Rattle.rules.specs.Rules as rules;
 ghost use Rattle.broken.specs.Scopes.{Ready};
 ghost use Rattle.steps.specs.Brackets.{step_of, on_gathers};
 ghost use Rattle.steps.specs.Heard.{heard, hear_runs};
-ghost use Rattle.steps.specs.Turns.{ScopeIs, turn_run, visit_of};
+ghost use Rattle.steps.specs.Turns.{ScopeIs, turn_run, numbered_run, visit_of};
 
 use crate::Tally;
 use crate::brackets::Step;
 use crate::visits::{Visit, at_item, thing_of, visit_thing};
-use broken::Site;
 use broken::asked::Story;
+use broken::{Rests, Site};
 use items::items::{named_at, place_in};
 use items::named::Sought;
 use sets::Class;
@@ -83,4 +83,45 @@ pub fn validate_nodes(
         gathers = pass_gather(turn.step, items, i, gathers, body);
     }
     tally.next_run()
+}
+
+// A step by its number at its site, and what was heard before.
+#[derive(Clone, Copy)]
+pub struct NumberedTurn {
+    pub site: Site,
+    pub step: u8,
+    pub tally: Tally,
+}
+
+// THE STEP of the number along the body's items; any number but 1 to 20 has the last step. For 0 it runs on a set without slots, and the lent one
+// stays as it is.
+pub fn validate_nodes_by_number(
+    story: &Story<'_>,
+    knot: &[u32],
+    body: &mut [u32],
+    list: &mut [u32],
+    turn: NumberedTurn,
+) -> Tally
+    requires { Ready story.now.file.now story.now.kept.now knot.now body.old turn.site 0 }
+    ensures list_after { (s : rules.Scope) → ScopeIs story.now.file.now story.now.kept.now story.now.view.sections turn.site.scope s → heard result list.new ≡ hear_runs (kept_story story.now.view.sections story.now.file.now) (heard turn.tally list.old) (numbered_run story.now.file.now story.now.kept.now turn s ∷ []) }
+    ensures body_unchanged { turn.step < 18 → body.new ≡ body.old }
+{
+    let NumberedTurn {
+        site,
+        step: number,
+        tally,
+    } = turn;
+    let step = Step::of(number);
+    if number == 0 {
+        let rests = Rests {
+            own: 0,
+            gathers: 0,
+            ..site.rests
+        };
+        let site = Site { rests, ..site };
+        let unlent = Turn { site, step, tally };
+        return validate_nodes(story, knot, &mut [], list, unlent);
+    }
+    let turn = Turn { site, step, tally };
+    validate_nodes(story, knot, body, list, turn)
 }
