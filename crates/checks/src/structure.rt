@@ -1,6 +1,6 @@
 // Choices, functions, parameters and stitch names: rules 4, 5 and 11 to 14 (structure.rs).
-ghost use Rattle.std.specs.Prelude.{◌≡◌, List, ℕ};
-ghost use Rattle.records.specs.Items.{What, is};
+ghost use Rattle.std.specs.Prelude.{◌≡◌, List, ℕ, ◌==◌};
+ghost use Rattle.records.specs.Items.{What, code, is};
 ghost use Rattle.records.specs.Numbers.{item_in};
 ghost use Rattle.rules.specs.Rules.{Known, Here, target};
 ghost use Rattle.rules.specs.Steps.{bracket, Step, choices};
@@ -21,6 +21,14 @@ pub fn is_sort(item: u32, sort: Sort) -> bool
     ensures { (file : List ℕ) → result ≡ is sort (item_in file item).what }
 {
     sort == sort_in(item)
+}
+
+// The item is of the sort that has the number.
+#[tactic(auto, using(records::proofs::Codes::tag_code))]
+pub fn has_sort_number(item: u32, number: u8) -> bool
+    ensures { (file : List ℕ) → result ≡ (number == code (item_in file item).what.kind) }
+{
+    number == sort_in(item) as u8
 }
 
 // The item has a target: it is a divert, a tunnel or a thread.
