@@ -6,13 +6,14 @@ use Prim.Native.Nat.{ℕ, suc, ◌+◌, ◌≤◌, ◌<◌}
 use native.Mathlib.Numerals.{add-one}
 use lib.ListN.{length, get_or, drop, drop_of_length-le}
 use lib.Seq.{drop-cons}
+use Rattle.std.specs.Prelude.{◌==◌}
 use Rattle.names.specs.Words.{Bytes, each}
-use Rattle.records.specs.Items.{What}
+use Rattle.records.specs.Items.{What, code}
 use Rattle.story.specs.Story.{whats}
 use Rattle.records.specs.Numbers.{item_in}
 use Rattle.items.specs.Bodies.{items_at}
 use Rattle.filters.specs.declared.Wanted.{Wanted}
-use Rattle.filters.specs.Words.{added, added_all, wants, named}
+use Rattle.filters.specs.Words.{added, added_all, wants, named, sort_named}
 
 -- 1. The names of items that are wanted
 
@@ -24,6 +25,16 @@ module _ (filter : List ℕ) (v : Wanted) (w : What) {b : Bool} (e : b ≡ wants
   pub item_passed : b ≡ false → filter ≡ added_all filter (named v w)
   unfolding added_all named
   item_passed f = rw (← e, f)
+
+-- the same, of the sort that has a number
+module _ (filter : List ℕ) (number : ℕ) (w : What) {b : Bool} (e : b ≡ (number == code w.kind)) where
+  pub numbered_added : b ≡ true → {name : Bytes} → name ≡ w.name → {after : List ℕ} → after ≡ added filter name → after ≡ added_all filter (sort_named number w)
+  unfolding added_all sort_named
+  numbered_added t n a = a ∙ rw (← e, t, n)
+
+  pub numbered_passed : b ≡ false → filter ≡ added_all filter (sort_named number w)
+  unfolding added_all sort_named
+  numbered_passed f = rw (← e, f)
 
 -- 2. Names of items one after the other
 

@@ -1,7 +1,7 @@
 -- A filter: bytes, one for each slot. A word that was added has a 1 at its slot. Assumes nothing.
-use Rattle.std.specs.Prelude.{ℕ, ◌≡◌, Bool, true, false, List, [], ◌∷◌, eqb, get_or, set}
+use Rattle.std.specs.Prelude.{ℕ, ◌≡◌, Bool, true, false, List, [], ◌∷◌, eqb, get_or, set, ◌==◌}
 use Rattle.names.specs.Words.{Bytes, only, one_of}
-use Rattle.records.specs.Items.{What, is}
+use Rattle.records.specs.Items.{What, code, is}
 use Rattle.tables.specs.Tables.{slot_of}
 use Rattle.filters.specs.declared.Wanted.{Wanted}
 use Rattle.filters.specs.declared.Wanted.TheVariants.{Sort, Label}
@@ -27,6 +27,10 @@ wants Label w = w.labels
 -- the name of an item that is wanted, and nothing of any other
 unfoldable pub named : Wanted → What → List Bytes
 named v w = only (wants v w) w.name
+
+-- the name of an item of the sort that has the number, and nothing of any other
+unfoldable pub sort_named : ℕ → What → List Bytes
+sort_named number w = only (number == code w.kind) w.name
 
 -- the filter lacks no word that passes the test
 pub record Covers (filter : List ℕ) (test : Bytes → Bool) : Type 0 where

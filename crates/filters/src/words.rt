@@ -6,10 +6,10 @@ ghost use Rattle.story.specs.Story.{words, whats};
 ghost use Rattle.records.specs.Numbers.{item_in};
 ghost use Rattle.records.specs.Buffers.{cleared};
 ghost use Rattle.items.specs.Bodies.{items_at};
-ghost use Rattle.filters.specs.Words.{added, added_all, lacks, wants, named};
+ghost use Rattle.filters.specs.Words.{added, added_all, lacks, wants, named, sort_named};
 
 use crate::Wanted;
-use checks::structure::is_sort;
+use checks::structure::{has_sort_number, is_sort};
 use items::items::{is_labelled, item_name};
 use searches::name_views::counted;
 use tables::hashes::{hash_of, slot_of};
@@ -71,6 +71,16 @@ pub fn add_item(filter: &mut [u8], wanted: Wanted, file: &[u8], item: u32)
     ensures { filter.new ≡ added_all filter.old (named wanted (item_in file.now item).what) }
 {
     if is_wanted(wanted, item) {
+        add_word(filter, item_name(file, item));
+    }
+}
+
+// Adds the name of the item where it is of the sort that has the number.
+#[tactic(auto, using(crate::proofs::Adding::numbered_added, crate::proofs::Adding::numbered_passed))]
+pub fn add_item_of_number(filter: &mut [u8], number: u8, file: &[u8], item: u32)
+    ensures { filter.new ≡ added_all filter.old (sort_named number (item_in file.now item).what) }
+{
+    if has_sort_number(item, number) {
         add_word(filter, item_name(file, item));
     }
 }
