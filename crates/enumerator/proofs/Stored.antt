@@ -32,7 +32,7 @@ store-counted p index n e = ap (λ (s : St). st s.index (n + 1)) e ∙ by-room (
     by-room true = refl
     by-room false = refl
 
-store-room : (p : Places) (index : List ℕ) (n : ℕ) → n < length index / 3 → st (noted n p index) (n + 1) ≡ store (st index n) p
+pub store-room : (p : Places) (index : List ℕ) (n : ℕ) → n < length index / 3 → st (noted n p index) (n + 1) ≡ store (st index n) p
 unfolding store
 store-room p index n h = rw (lt-ltb n (length index / 3) h)
 
