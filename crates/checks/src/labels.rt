@@ -1,11 +1,23 @@
 // Labels, and what a stitch may not see, by the kept items of the flow or the stitch at hand.
 ghost use Rattle.std.specs.Prelude.{◌≡◌};
+ghost use Rattle.records.specs.declared.sorts.Sort.{Sort as Kind};
+ghost use Rattle.records.specs.Items.{code, labelled};
+ghost use Rattle.records.specs.Numbers.{bit};
 ghost use Rattle.checks.specs.Context.{declared_at, here_at};
 
 use crate::view::BodyView;
 use items::named::{has_label, has_temp};
 use items::runs::KeptBody;
+use records::sorts::{Sort, label_bit};
 use searches::is_counted;
+
+// 1 where the name of a record of the sort that has the number is a label.
+#[tactic(auto, using(crate::proofs::Tables::label_there))]
+pub fn label_bit_of_number(number: u8, payload: &[u8]) -> u32
+    ensures { (k : Kind) → number ≡ code k → result ≡ bit (labelled k payload.now) }
+{
+    label_bit(Sort::of(number.into()), payload)
+}
 
 // The name is a parameter or a temp of the flow or the stitch with these parameters and this body.
 fn is_declared(body: &KeptBody<'_>, params: usize, name: &[u8]) -> bool
