@@ -31,9 +31,10 @@ impl<'a> Text<'a> {
         ensures wrote { Wrote self.old.out.now self.old.end piece.now self.new.out.now self.new.end }
     {
         let start = self.end;
-        let end = start + piece.len();
-        self.out[start..end].copy_from_slice(piece);
-        self.end = end;
+        for (i, &byte) in piece.iter().enumerate() {
+            self.out[start + i] = byte;
+        }
+        self.end = start + piece.len();
     }
 
     // Writes a text around one name.
