@@ -85,6 +85,9 @@ pub fn validate_nodes(
     tally.next_run()
 }
 
+// The number before the first step's.
+const NO_STEP: u8 = 0;
+
 // A step by its number at its site, and what was heard before.
 #[derive(Clone, Copy)]
 pub struct NumberedTurn {
@@ -112,7 +115,7 @@ pub fn validate_nodes_by_number(
         tally,
     } = turn;
     let step = Step::of(number);
-    if number == 0 {
+    if number == NO_STEP {
         let rests = Rests {
             own: 0,
             gathers: 0,
