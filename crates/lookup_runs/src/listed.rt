@@ -1,5 +1,6 @@
 // The lookups of a stored list, read from its text: blocks of lines, each a word and what it tells.
 ghost use Rattle.std.specs.Prelude.{◌≤◌};
+ghost use Rattle.lookup_runs.specs.Room.{SameRoom};
 
 use crate::shown::{BLANK, Lookup};
 use builder::Builder;
@@ -32,7 +33,9 @@ fn number_in(text: &[u8]) -> usize {
 }
 
 // Puts the bytes of a hexadecimal text in place of those that were put before.
-fn decode(text: &[u8], out: &mut Builder) {
+fn decode(text: &[u8], out: &mut Builder)
+    ensures { SameRoom out.old out.new }
+{
     out.clear();
     for [high, low] in text.as_chunks::<2>().0 {
         out.byte(16 * digit(*high) + digit(*low));

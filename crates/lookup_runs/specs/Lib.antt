@@ -1,0 +1,2 @@
+-- The definition that the builders of stories are said by.
+pub mod Room
