@@ -109,18 +109,18 @@ impl<'a> Builder<'a> {
     pub fn bytes(&mut self, s: &[u8])
         ensures { Puts self.old s.now self.new }
     {
-        for b in s {
-            self.byte(*b);
-        }
+        let many = s.len().min(self.space.len() - self.end);
+        self.space[self.end..self.end + many].copy_from_slice(&s[..many]);
+        self.end += many;
     }
 
     // Puts so many zeros, each of them an empty name.
     pub fn zeros(&mut self, n: usize)
         ensures { Puts self.old (replicate n 0) self.new }
     {
-        for _ in 0..n {
-            self.byte(0);
-        }
+        let many = n.min(self.space.len() - self.end);
+        self.space[self.end..self.end + many].fill(0);
+        self.end += many;
     }
 
     // Puts a number below 2^32 in four bytes, little-endian.
