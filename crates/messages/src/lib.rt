@@ -23,7 +23,7 @@ impl<'a> Text<'a> {
         Text { out, end: 0 }
     }
 
-    // Writes the bytes of a piece.
+    // Writes the bytes of a piece, one by one: the library's copying would make an archive for C need `memmove` from outside.
     pub fn put(&mut self, piece: &[u8])
         requires { self.old.end + length piece.now ≤ length self.old.out.now }
         ensures same_buffer { self.new.out.ghost_name ≡ self.old.out.ghost_name }
