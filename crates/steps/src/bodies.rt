@@ -130,8 +130,8 @@ pub struct NumberedCourse {
     pub many: u8,
 }
 
-// THE STEPS of the numbers along the body's items, one after the other, until it is full. A step on gathers is the last, so the body's set is filled
-// once.
+// THE STEPS of the numbers along the body's items, one after the other, until it is full. Only the last has a number from 18 on, so the body's set is
+// filled once.
 pub fn validate_steps_by_number(
     story: &Story<'_>,
     knot: &[u32],
