@@ -1,2 +1,2 @@
--- The lemmas on the buffer that a builder was lent.
+-- What follows from that promise.
 pub mod Room

@@ -1,2 +1,2 @@
--- The definition that the builders of stories are said by.
+-- What the functions that put bytes promise of the buffer that they were lent.
 pub mod Room

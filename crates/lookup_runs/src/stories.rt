@@ -39,7 +39,7 @@ fn put_title(file: &mut Builder, name: &[u8], param: Option<&[u8]>)
     file.byte(0);
 }
 
-// Puts a stitch that has a gather. The closure is lent: of a call by value nothing is known where it holds the parameter.
+// Puts a stitch that has a gather. The closure is lent: of one that is handed over and holds an `Option` of a reference the check knows nothing.
 fn put_stitch(file: &mut Builder, spelled: Spelled)
     ensures { SameRoom file.old file.new }
 {

@@ -28,6 +28,7 @@ use Rattle.steps.proofs.Coursing.{runs-split, runs_none, knot-again, course-clea
 
 -- 1. The steps by their numbers
 
+-- they are as many as their numbers
 pub steps-length : (n many : ℕ) → length (steps_from n many) ≡ many
 unfolding steps_from
 steps-length n zero = refl

@@ -193,6 +193,7 @@ module _ {limit : ℕ} where
 pub record HasLast (h : Heard) : Type 0 where
   pub last : (h.tally.count ≡ 0 → ⊥) → IsSome h.tally.last
 
+-- what is heard keeps it
 hear-last : (h : Heard) → HasLast h → (b : Breach) → HasLast (hear h b)
 hear-last h l b = by-test (full h) refl
   where
@@ -200,11 +201,13 @@ hear-last h l b = by-test (full h) refl
     by-test true e = rw (hear-none h e b) l
     by-test false e = rw (hear-room h e b) (record { last = λ z. refl })
 
+-- so do breaches one after the other,
 all-last : (h : Heard) → HasLast h → (bs : List Breach) → HasLast (hear_all h bs)
 unfolding hear_all
 all-last h l [] = l
 all-last h l (b ∷ bs) = all-last (hear h b) (hear-last h l b) bs
 
+-- runs that find nothing,
 pass-last : (n : ℕ) (h : Heard) → HasLast h → HasLast (pass n h)
 pass-last n h l = by-test (full h) refl
   where
@@ -212,6 +215,7 @@ pass-last n h l = by-test (full h) refl
     by-test true e = rw (passed-full h.tally e n) l
     by-test false e = rw (passed-room h.tally e n) (record { last = l.last })
 
+-- and runs one after the other
 pub runs-last : (s : Story) (h : Heard) → HasLast h → (us : List Run) → HasLast (hear_runs s h us)
 unfolding hear_runs
 runs-last s h l [] = l

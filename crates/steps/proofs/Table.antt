@@ -1,6 +1,6 @@
 -- The steps by their numbers: which of them are on gathers, and which have the rule on gathers. Assumes nothing.
 use mathlib.Core.Path.{◌≡◌, refl, sym, ◌∙◌}
-use mathlib.Core.Bool.{Bool, true, false, ◌||◌}
+use mathlib.Core.Bool.{false}
 use mathlib.Core.List.{List, [], ◌∷◌, ◌++◌}
 use mathlib.Core.Logic.{inl, inr}
 use Prim.Native.Nat.{ℕ, zero, suc, ◌<◌}
@@ -9,23 +9,19 @@ use lib.ListN.{length, get_or, get_or-map}
 use types.Run.{OneOf}
 use Rattle.names.specs.Words.{any}
 use Rattle.records.proofs.Tables.{Misses, missed}
+use Rattle.targets.proofs.Gaining.{or-false-left, or-false-right}
 use Rattle.rules.specs.declared.Rule.{Rule}
 use Rattle.rules.specs.declared.Rule.TheVariants.{NameIsFunction, NameIsGlobal, TempIsLabel, FunctionWithStitches, FunctionWithChoice, FunctionWithDivert, VariableForbidden}
 use Rattle.rules.specs.Steps.{Step, s1, s2, s3, s4, s5, s6, s7, s8, s9, s10, s11, s12, s13, s14, s15, s16, s17, s18, s19, s20, bracket, targets, calls, choices, temps, variable_diverts, gathers}
 use Rattle.steps.specs.Brackets.{steps, step_at, on_gathers}
-
--- neither test passes
-neither : (a b : Bool) → a || b ≡ false → (a ≡ false) × (b ≡ false)
-neither true b e = cc
-neither false b e = (refl, e)
 
 -- 1. The steps on gathers
 
 -- none of the first steps is on gathers
 none_at : (xs ys : List Step) → any on_gathers xs ≡ false → (n : ℕ) → n < length xs → on_gathers (get_or (xs ++ ys) n s20) ≡ false
 none_at [] ys e n l = absurd (omega arith)
-none_at (x ∷ xs) ys e zero l = (neither (on_gathers x) (any on_gathers xs) e).0
-none_at (x ∷ xs) ys e (suc n) l = none_at xs ys (neither (on_gathers x) (any on_gathers xs) e).1 n (omega arith)
+none_at (x ∷ xs) ys e zero l = or-false-left (on_gathers x) (any on_gathers xs) e
+none_at (x ∷ xs) ys e (suc n) l = none_at xs ys (or-false-right (on_gathers x) (any on_gathers xs) e) n (omega arith)
 
 -- before 18 only 0 is the number of a step on gathers
 pub plain-step : (n : ℕ) → n < 18 → (n ≡ 0 → ⊥) → on_gathers (step_at n) ≡ false
@@ -62,6 +58,7 @@ Not-10 n = (Not-14 n × Not (3 ∷ 9 ∷ 15 ∷ []) n) × Not (4 ∷ 10 ∷ []) 
 abbrev Not-13 : ℕ → Type 0
 Not-13 n = ((Not-10 n × Not (5 ∷ []) n) × Not (6 ∷ []) n) × Not (7 ∷ 13 ∷ []) n
 
+-- the number is that of no step with other rules
 abbrev pub NoOther : ℕ → Type 0
 NoOther n = ((Not-13 n × Not (11 ∷ 16 ∷ []) n) × Not (12 ∷ []) n) × Not (17 ∷ []) n
 
